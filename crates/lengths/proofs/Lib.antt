@@ -1,0 +1,5 @@
+pub mod Checks
+pub mod Best
+pub mod Filling
+pub mod Rows
+pub mod Asking

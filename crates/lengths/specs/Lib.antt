@@ -1,0 +1,4 @@
+pub mod Check
+pub mod Tables
+pub mod Asked
+pub mod Steps

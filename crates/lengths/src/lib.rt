@@ -1,0 +1,4 @@
+//! Longest lengths to and from every node of a wiring, lead types, and the check before them.
+pub mod check;
+pub mod table;
+pub mod asked;

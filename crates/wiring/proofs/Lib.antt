@@ -1,0 +1,9 @@
+pub mod Ends
+pub mod Runs
+pub mod Reach
+pub mod Local
+pub mod Lengths
+pub mod Turning
+pub mod FromLengths
+pub mod Cover
+pub mod Types

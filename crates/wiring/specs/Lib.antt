@@ -1,0 +1,5 @@
+pub mod Net
+pub mod Paths
+pub mod Lengths
+pub mod Views
+pub mod Refusals
