@@ -4,6 +4,9 @@ ghost use mathlib.Core.Path.{_≡_};
 ghost use Prim.Native.Nat.{_+_};
 ghost use Rattle.delay.specs.Kind.{Kind, Laws, Together};
 ghost use Rattle.delay.specs.Delivered.{picosecond-kind, contact-kind, early-kind};
+ghost use Rattle.delay.specs.Shown.{picoseconds-text, contact-text};
+ghost use Rattle.std.specs.declared.option.Option.the-variants.{Some};
+use std::fmt;
 
 /// The most picoseconds that a lead may have under the picosecond and the contact kind.
 pub const MOST_PICOSECONDS: u32 = 1_000_000;
@@ -132,5 +135,35 @@ pub impl<K: Delay> Delay for Early<K> as EarlyDelay {
 
     fn read(picoseconds: u32, contacts: u8) -> Self {
         Early(K::read(picoseconds, contacts))
+    }
+}
+
+/// The picoseconds in decimal, as `1200`.
+pub impl fmt::Display for Picoseconds as PicosecondsDisplay {
+    ghost shown = { λ d. Some (picoseconds-text d) };
+
+    fn fmt<W: fmt::Write>(&self, f: &mut fmt::Formatter<W>) -> fmt::Result {
+        let picoseconds = self.0;
+        write!(f, "{picoseconds}")
+    }
+}
+
+/// The picoseconds, a slash and the contacts, as `1200/3`.
+pub impl fmt::Display for Contact as ContactDisplay {
+    ghost shown = { λ d. Some (contact-text d) };
+
+    fn fmt<W: fmt::Write>(&self, f: &mut fmt::Formatter<W>) -> fmt::Result {
+        let picoseconds = self.picoseconds;
+        let contacts = self.contacts;
+        write!(f, "{picoseconds}/{contacts}")
+    }
+}
+
+/// As the kind below shows it.
+pub impl<K: fmt::Display> fmt::Display for Early<K> as EarlyDisplay {
+    ghost shown = { λ d. K·Display .shown (d .0) };
+
+    fn fmt<W: fmt::Write>(&self, f: &mut fmt::Formatter<W>) -> fmt::Result {
+        self.0.fmt(f)
     }
 }

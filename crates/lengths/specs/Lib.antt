@@ -2,3 +2,4 @@ pub mod Check
 pub mod Tables
 pub mod Asked
 pub mod Steps
+pub mod Wording

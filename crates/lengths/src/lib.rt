@@ -2,3 +2,4 @@
 pub mod check;
 pub mod table;
 pub mod asked;
+pub mod wording;
