@@ -2,21 +2,21 @@
 use mathlib.Core.Path.{_≡_, refl, sym, ap, subst, _∙_}
 use mathlib.Core.Logic.{_⊎_, inl, inr, ⊎-elim}
 use mathlib.Core.Bool.{true, false}
-use mathlib.Core.List.{List}
+use mathlib.Core.List.{List, reverse}
 use Prim.Native.Nat.{ℕ, _+_, _-_, _≤_, _<_}
 use native.Mathlib.Omega.{arith}
 use Rattle.delay.specs.Kind.{Kind, SumOf, both, most-leads, Laws, Le}
 use Rattle.delay.proofs.Sums.{weaken, same-or-not}
 use Rattle.wiring.specs.declared.Lead.{Lead}
 use Rattle.wiring.specs.Net.{Net, Holds, Sound, hasIn, hasOut}
-use Rattle.wiring.specs.Paths.{delayOf}
+use Rattle.wiring.specs.Paths.{Run, delayOf}
 use Rattle.wiring.specs.Lengths.{To, From, Drains}
 use Rattle.wiring.specs.Views.{mirror, flip, turned-net}
 use Rattle.wiring.proofs.Ends.{one-lead, head-inside, out-inside}
-use Rattle.wiring.proofs.Runs.{lead-sum}
-use Rattle.wiring.proofs.Local.{LocalTo, DrainsOut, LocalFrom}
+use Rattle.wiring.proofs.Runs.{run-length, run-sum, lead-sum}
+use Rattle.wiring.proofs.Local.{LocalTo, DrainsOut, LocalFrom, grows}
 use Rattle.wiring.proofs.Lengths.{to-sum, from-sum, to-unique, local-to}
-use Rattle.wiring.proofs.Turning.{in-order, turned-holds, turned-held, in-turned, turned-sound, to-turned}
+use Rattle.wiring.proofs.Turning.{in-order, turned-holds, turned-held, in-turned, mirrored, turned-sound, to-turned, mirrored-lengths}
 
 module _ {D : Type 0} {K : Kind D} (L : Laws K) {N : Net D} (S : Sound K N) where
   -- a node has one From
@@ -72,6 +72,16 @@ module _ {D : Type 0} {K : Kind D} (L : Laws K) {N : Net D} (S : Sound K N) wher
           (rules .bounds k (flip (N .nodes) l) (turned-holds (in-order S) k l h)));
       met = draining-lead-out;
     }
+
+    -- along a run the lengths fall by at least its delay
+    pub falls : {v w : ℕ} {ks : List ℕ} → w < N .nodes → Run N v w ks → Le K (K .plus (delayOf K N ks) (from w)) (from v)
+    falls {v} {w} {ks} i r =
+        let len = run-length S r in let few = S .few-nodes in
+        let view = grows L (turned-sound L S) over rules (omega arith) (mirrored (in-order S) .there v w ks r) in
+        subst (λ x. Le K x (from v)) (L .commutes (from-sum S (T w i)) (run-sum S r) (omega arith))
+        (subst (λ x. Le K (K .plus (from w) x) (from v)) (mirrored-lengths L S .delay v w ks i r)
+        (subst (λ x. Le K (K .plus x (delayOf K (turned-net N) (reverse ks))) (from v)) (over-at w i)
+        (subst (Le K (K .plus (over (mirror (N .nodes) w)) (delayOf K (turned-net N) (reverse ks)))) (over-at v (omega arith)) view)))
 
     -- a lead drains exactly if its sum is met
     pub drains-sums : (k : ℕ) (l : Lead D) → Holds N k l → Drains K N k → K .plus (l .delay) (from (l .head)) ≡ from (l .tail)

@@ -7,3 +7,5 @@ pub mod Turning
 pub mod FromLengths
 pub mod Cover
 pub mod Types
+pub mod Steps
+pub mod Marks

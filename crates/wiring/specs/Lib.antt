@@ -3,3 +3,5 @@ pub mod Paths
 pub mod Lengths
 pub mod Views
 pub mod Refusals
+pub mod Loads
+pub mod Lists

@@ -49,7 +49,10 @@ pub impl<D: Copy> Wiring<D> for Table<'_, D> as TableWiring {
     }
 
     fn lead(&self, place: usize) -> Option<Lead<D>> {
-        if place < self.leads.len() { self.leads[place] } else { None }
+        match self.leads.get(place) {
+            Some(entry) => *entry,
+            None => None,
+        }
     }
 }
 
@@ -81,16 +84,12 @@ pub impl<D: Copy, W: Wiring<D>> Wiring<D> for Turned<'_, W> as TurnedWiring {
     }
 
     fn lead(&self, place: usize) -> Option<Lead<D>> {
-        let n = self.under.nodes();
-        match self.under.lead(place) {
-            Some(l) => {
-                if l.tail < l.head && l.head < n {
-                    Some(Lead { tail: n - 1 - l.head, head: n - 1 - l.tail, delay: l.delay })
-                } else {
-                    Some(Lead { tail: 0, head: 0, delay: l.delay })
-                }
-            }
-            None => None,
+        let n = Self::nodes(self);
+        let l = self.under.lead(place)?;
+        if l.tail < l.head && l.head < n {
+            Some(Lead { tail: n - 1 - l.head, head: n - 1 - l.tail, delay: l.delay })
+        } else {
+            Some(Lead { tail: 0, head: 0, delay: l.delay })
         }
     }
 }
