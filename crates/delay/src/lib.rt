@@ -84,7 +84,10 @@ pub impl Delay for Contact as ContactDelay {
     ghost kind = { contact-kind };
 
     fn zero() -> Self {
-        Contact { picoseconds: 0, contacts: 0 }
+        Contact {
+            picoseconds: 0,
+            contacts: 0,
+        }
     }
 
     fn plus(self, other: Self) -> Self
@@ -98,7 +101,8 @@ pub impl Delay for Contact as ContactDelay {
     }
 
     fn below(self, other: Self) -> bool {
-        self.picoseconds < other.picoseconds || self.picoseconds == other.picoseconds && self.contacts < other.contacts
+        self.picoseconds < other.picoseconds
+            || self.picoseconds == other.picoseconds && self.contacts < other.contacts
     }
 
     fn lawful(self) -> bool {
@@ -106,7 +110,10 @@ pub impl Delay for Contact as ContactDelay {
     }
 
     fn read(picoseconds: u32, contacts: u8) -> Self {
-        Contact { picoseconds, contacts: contacts as u32 }
+        Contact {
+            picoseconds,
+            contacts: contacts as u32,
+        }
     }
 }
 

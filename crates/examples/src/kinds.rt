@@ -18,18 +18,40 @@ fn a_million_picoseconds_are_lawful() -> Result<(), Fail> {
 
 #[test]
 fn contacts_are_lawful_up_to_255() -> Result<(), Fail> {
-    check(Contact { picoseconds: 1_000_000, contacts: 255 }.lawful())?;
-    check(!Contact { picoseconds: 1_000_001, contacts: 255 }.lawful())?;
-    check(!Contact { picoseconds: 1_000_000, contacts: 256 }.lawful())
+    check(Contact {
+        picoseconds: 1_000_000,
+        contacts: 255,
+    }.lawful())?;
+    check(
+        !Contact {
+            picoseconds: 1_000_001,
+            contacts: 255,
+        }.lawful(),
+    )?;
+    check(
+        !Contact {
+            picoseconds: 1_000_000,
+            contacts: 256,
+        }.lawful(),
+    )
 }
 
 #[test]
 fn picoseconds_come_before_contacts() -> Result<(), Fail> {
-    let few = Contact { picoseconds: 3, contacts: 9 };
-    let many = Contact { picoseconds: 4, contacts: 0 };
+    let few = Contact {
+        picoseconds: 3,
+        contacts: 9,
+    };
+    let many = Contact {
+        picoseconds: 4,
+        contacts: 0,
+    };
     check(few.below(many))?;
     check(!many.below(few))?;
-    check(Contact { picoseconds: 3, contacts: 0 }.below(few))
+    check(Contact {
+        picoseconds: 3,
+        contacts: 0,
+    }.below(few))
 }
 
 #[test]
@@ -42,7 +64,10 @@ fn the_early_kind_turns_the_order() -> Result<(), Fail> {
 #[test]
 fn no_sum_wraps() -> Result<(), Fail> {
     check_eq(Picoseconds(u32::MAX).plus(Picoseconds(1)).0, u32::MAX)?;
-    check_eq(Picoseconds(4_094_000_000).plus(Picoseconds(1_000_000)).0, 4_095_000_000)
+    check_eq(
+        Picoseconds(4_094_000_000).plus(Picoseconds(1_000_000)).0,
+        4_095_000_000,
+    )
 }
 
 #[test]

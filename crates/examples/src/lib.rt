@@ -2,6 +2,6 @@
 #[cfg(test)]
 mod kinds;
 #[cfg(test)]
-mod wirings;
-#[cfg(test)]
 mod limits;
+#[cfg(test)]
+mod wirings;

@@ -16,7 +16,11 @@ use wiring::refusals::Refusal;
 type Place = Option<Lead<Picoseconds>>;
 
 fn lead(tail: usize, head: usize, picoseconds: u32) -> Place {
-    Some(Lead { tail, head, delay: Picoseconds(picoseconds) })
+    Some(Lead {
+        tail,
+        head,
+        delay: Picoseconds(picoseconds),
+    })
 }
 
 fn fault(nodes: usize, leads: &[Place]) -> Result<(), Fault> {
@@ -61,7 +65,9 @@ fn the_first_bad_lead_decides() -> Result<(), Fail> {
     check(matches!(fault(4097, &[crossed]), Err(Fault::Size))).note("size before leads")?;
     check(matches!(fault(2, &[late, crossed]), Err(Fault::Delay(0))))?;
     check(matches!(fault(2, &[None, crossed, late]), Err(Fault::Ends(1))))?;
-    check(matches!(fault(2, &[lead(1, 0, 1_000_001)]), Err(Fault::Ends(0)))).note("ends before delay")
+    check(matches!(fault(2, &[lead(1, 0, 1_000_001)]), Err(Fault::Ends(0)))).note(
+        "ends before delay",
+    )
 }
 
 #[test]
@@ -70,10 +76,31 @@ fn a_fault_comes_before_a_short_table() -> Result<(), Fail> {
     let mut table = Lengths::new(&mut row);
     let crossed = [lead(1, 0, 1)];
     let fine = [lead(0, 1, 1)];
-    let unsound = table.fill_to(&Table { nodes: 2, leads: &crossed });
+    let unsound = table.fill_to(
+        &Table {
+            nodes: 2,
+            leads: &crossed,
+        },
+    );
     check(matches!(unsound, Err(FillError::Unsound(Fault::Ends(0)))))?;
-    check(matches!(table.fill_to(&Table { nodes: 2, leads: &fine }), Err(FillError::Short)))?;
-    check(matches!(table.fill_from(&Table { nodes: 2, leads: &fine }), Err(FillError::Short)))?;
+    check(matches!(
+        table.fill_to(
+            &Table {
+                nodes: 2,
+                leads: &fine
+            }
+        ),
+        Err(FillError::Short)
+    ))?;
+    check(matches!(
+        table.fill_from(
+            &Table {
+                nodes: 2,
+                leads: &fine
+            }
+        ),
+        Err(FillError::Short)
+    ))?;
     check_eq(table.at(0).0, 9).note("the table stays")
 }
 
@@ -98,7 +125,10 @@ fn chain(heap: Global, leads: usize) -> Result<Vec<Place>, AllocError> {
 #[test]
 fn the_longest_chain_sums_exactly(rt: LibcRuntime) -> Result<(), Fail> {
     let places = chain(rt.alloc(), 4095)?;
-    let table = Table { nodes: 4096, leads: places.as_slice() };
+    let table = Table {
+        nodes: 4096,
+        leads: places.as_slice(),
+    };
     let mut to_row = [Picoseconds(0); 4096];
     let mut from_row = [Picoseconds(0); 4096];
     let mut to = Lengths::new(&mut to_row);

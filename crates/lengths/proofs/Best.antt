@@ -17,7 +17,7 @@ use Rattle.lengths.specs.Steps.{longer-of}
 abbrev pub BestBelow : {D : Type 0} → Kind D → Net D → (Lead D → Type 0) → (Lead D → D) → ℕ → Option D → Type 0
 BestBelow {D} K N Q value p None = (k : ℕ) → k < p → (l : Lead D) → Holds N k l → Q l → ⊥
 BestBelow {D} K N Q value p (Some b) =
-  ((k : ℕ) × (l : Lead D) × (k < p) × Holds N k l × Q l × (value l ≡ b)) × ((k : ℕ) → k < p → (l : Lead D) → Holds N k l → Q l → Le K (value l) b)
+    ((k : ℕ) × (l : Lead D) × (k < p) × Holds N k l × Q l × (value l ≡ b)) × ((k : ℕ) → k < p → (l : Lead D) → Holds N k l → Q l → Le K (value l) b)
 
 module _ {D : Type 0} (K : Kind D) (L : Laws K) (N : Net D) (Q : Lead D → Type 0) (value : Lead D → D)
     (within : (k : ℕ) (l : Lead D) → Holds N k l → Q l → Within K (value l)) where

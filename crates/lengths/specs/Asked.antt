@@ -27,8 +27,8 @@ of-lead f (Some l) = Some (f l)
 abbrev pub TypeOf : {D : Type 0} → Kind D → Net D → ℕ → Option (Bool × Bool) → Type 0
 TypeOf K N k None = N .at k ≡ None
 TypeOf K N k (Some m) = (isLead N k ≡ true)
-  × ((m .0 ≡ true → Drains K N k) × (Drains K N k → m .0 ≡ true))
-  × ((m .1 ≡ true → Fed K N k) × (Fed K N k → m .1 ≡ true))
+    × ((m .0 ≡ true → Drains K N k) × (Drains K N k → m .0 ≡ true))
+    × ((m .1 ≡ true → Fed K N k) × (Fed K N k → m .1 ≡ true))
 
 -- the delay of a longest path through a lead; a vacant place has none
 abbrev pub ThroughOf : {D : Type 0} → Kind D → Net D → ℕ → Option D → Type 0

@@ -27,7 +27,12 @@ fn level<D: Delay>(x: D, y: D) -> bool
 
 /// The type of a lead as two marks, whether it drains and whether it is fed; nothing for a vacant
 /// place. The tables are only asked.
-pub fn classify<D: Delay, W: Wiring<D>>(w: &W, to: &mut Lengths<D>, from: &mut Lengths<D>, place: usize) -> Option<(bool, bool)>
+pub fn classify<D: Delay, W: Wiring<D>>(
+    w: &W,
+    to: &mut Lengths<D>,
+    from: &mut Lengths<D>,
+    place: usize,
+) -> Option<(bool, bool)>
     ensures marks { λ r. ⌜ r ≡ of-lead (type-by (D·Delay .kind) (entry (D·Delay .kind) (now (now (to .entry) .table))) (entry (D·Delay .kind) (now (now (from .entry) .table)))) (W·Wiring .net (now (w .entry)) .at place) ⌝ }
     ensures types { λ r. ⌜ (Filled (D·Delay .kind) (W·Wiring .net (now (w .entry))) (now (now (to .entry) .table)) (now (now (from .entry) .table)) → TypeOf (D·Delay .kind) (W·Wiring .net (now (w .entry))) place r) ⌝ }
     ensures to_kept { λ _. ⌜ now (now (to .exit) .table) ≡ now (now (to .entry) .table) ⌝ }
@@ -42,7 +47,12 @@ pub fn classify<D: Delay, W: Wiring<D>>(w: &W, to: &mut Lengths<D>, from: &mut L
 }
 
 /// The delay of a longest path through a lead; nothing for a vacant place.
-pub fn longest_through<D: Delay, W: Wiring<D>>(w: &W, to: &mut Lengths<D>, from: &mut Lengths<D>, place: usize) -> Option<D>
+pub fn longest_through<D: Delay, W: Wiring<D>>(
+    w: &W,
+    to: &mut Lengths<D>,
+    from: &mut Lengths<D>,
+    place: usize,
+) -> Option<D>
     ensures delay { λ r. ⌜ r ≡ of-lead (through-by (D·Delay .kind) (entry (D·Delay .kind) (now (now (to .entry) .table))) (entry (D·Delay .kind) (now (now (from .entry) .table)))) (W·Wiring .net (now (w .entry)) .at place) ⌝ }
     ensures longest { λ r. ⌜ (Filled (D·Delay .kind) (W·Wiring .net (now (w .entry))) (now (now (to .entry) .table)) (now (now (from .entry) .table)) → ThroughOf (D·Delay .kind) (W·Wiring .net (now (w .entry))) place r) ⌝ }
     ensures to_kept { λ _. ⌜ now (now (to .exit) .table) ≡ now (now (to .entry) .table) ⌝ }
@@ -56,7 +66,11 @@ pub fn longest_through<D: Delay, W: Wiring<D>>(w: &W, to: &mut Lengths<D>, from:
 }
 
 // The longest of all paths, as the longest over all leads.
-fn longest_of<D: Delay, W: Wiring<D>>(w: &W, to: &mut Lengths<D>, from: &mut Lengths<D>) -> Option<D>
+fn longest_of<D: Delay, W: Wiring<D>>(
+    w: &W,
+    to: &mut Lengths<D>,
+    from: &mut Lengths<D>,
+) -> Option<D>
     requires { ⌜ Filled (D·Delay .kind) (W·Wiring .net (now w)) (now (now to .table)) (now (now from .table)) ⌝ }
     ensures longest { λ r. ⌜ LongestOf (D·Delay .kind) (W·Wiring .net (now (w .entry))) r ⌝ }
     ensures to_kept { λ _. ⌜ now (now (to .exit) .table) ≡ now (now (to .entry) .table) ⌝ }
@@ -75,16 +89,21 @@ fn longest_of<D: Delay, W: Wiring<D>>(w: &W, to: &mut Lengths<D>, from: &mut Len
 
 /// Checks a wiring, fills both length tables, and answers the delay of a longest path, or nothing
 /// where there is no path. A refusal leaves both tables as they were.
-pub fn work_out<D: Delay, W: Wiring<D>>(w: &W, to: &mut Lengths<D>, from: &mut Lengths<D>) -> Result<Option<D>, FillError>
+pub fn work_out<D: Delay, W: Wiring<D>>(
+    w: &W,
+    to: &mut Lengths<D>,
+    from: &mut Lengths<D>,
+) -> Result<Option<D>, FillError>
     ensures answer { λ r. ⌜ elim r [
-        Ok longest ↦ LongestOf (D·Delay .kind) (W·Wiring .net (now (w .entry))) longest
-            × Filled (D·Delay .kind) (W·Wiring .net (now (w .entry))) (now (now (to .exit) .table)) (now (now (from .exit) .table))
-            × (W·Wiring .net (now (w .entry)) .nodes ≤ min (length (now (now (to .entry) .table))) (length (now (now (from .entry) .table))))
-            × (drop (W·Wiring .net (now (w .entry)) .nodes) (now (now (to .exit) .table)) ≡ drop (W·Wiring .net (now (w .entry)) .nodes) (now (now (to .entry) .table)))
-            × (drop (W·Wiring .net (now (w .entry)) .nodes) (now (now (from .exit) .table)) ≡ drop (W·Wiring .net (now (w .entry)) .nodes) (now (now (from .entry) .table)))
-        | Err e ↦ NotFilled (D·Delay .kind) (W·Wiring .net (now (w .entry))) (min (length (now (now (to .entry) .table))) (length (now (now (from .entry) .table)))) e
-            × (now (now (to .exit) .table) ≡ now (now (to .entry) .table))
-            × (now (now (from .exit) .table) ≡ now (now (from .entry) .table)) ] ⌝ }
+      | Ok longest ↦ LongestOf (D·Delay .kind) (W·Wiring .net (now (w .entry))) longest
+          × Filled (D·Delay .kind) (W·Wiring .net (now (w .entry))) (now (now (to .exit) .table)) (now (now (from .exit) .table))
+          × (W·Wiring .net (now (w .entry)) .nodes ≤ min (length (now (now (to .entry) .table))) (length (now (now (from .entry) .table))))
+          × (drop (W·Wiring .net (now (w .entry)) .nodes) (now (now (to .exit) .table)) ≡ drop (W·Wiring .net (now (w .entry)) .nodes) (now (now (to .entry) .table)))
+          × (drop (W·Wiring .net (now (w .entry)) .nodes) (now (now (from .exit) .table)) ≡ drop (W·Wiring .net (now (w .entry)) .nodes) (now (now (from .entry) .table)))
+      | Err e ↦ NotFilled (D·Delay .kind) (W·Wiring .net (now (w .entry))) (min (length (now (now (to .entry) .table))) (length (now (now (from .entry) .table)))) e
+          × (now (now (to .exit) .table) ≡ now (now (to .entry) .table))
+          × (now (now (from .exit) .table) ≡ now (now (from .entry) .table))
+    ] ⌝ }
     ensures to_lender { λ _. ⌜ name (now (to .exit) .table) ≡ name (now (to .entry) .table) ⌝ }
     ensures from_lender { λ _. ⌜ name (now (from .exit) .table) ≡ name (now (from .entry) .table) ⌝ }
 {

@@ -40,8 +40,9 @@ impl Fault {
 // What is wrong at one place: the ends are judged before the delay.
 fn fault_at<D: Delay>(nodes: usize, place: usize, lead: Option<Lead<D>>) -> Option<Fault>
     ensures { λ r. ⌜ elim r [
-        None ↦ ((l : LeadRecord D) → lead ≡ Some l → Keeps (D·Delay .kind) nodes l)
-        | Some f ↦ ((l : LeadRecord D) × (lead ≡ Some l) × Breaks (D·Delay .kind) nodes place l f) ] ⌝ }
+      | None ↦ ((l : LeadRecord D) → lead ≡ Some l → Keeps (D·Delay .kind) nodes l)
+      | Some f ↦ ((l : LeadRecord D) × (lead ≡ Some l) × Breaks (D·Delay .kind) nodes place l f)
+    ] ⌝ }
 {
     let l = lead?;
     if l.tail >= l.head || l.head >= nodes {
@@ -56,8 +57,9 @@ fn fault_at<D: Delay>(nodes: usize, place: usize, lead: Option<Lead<D>>) -> Opti
 /// Checks a wiring for a kind of delay: the size first, then every lead in ascending place number.
 pub fn check<D: Delay, W: Wiring<D>>(w: &W) -> Result<(), Fault>
     ensures { λ r. ⌜ elim r [
-        Ok _ ↦ Sound (D·Delay .kind) (W·Wiring .net (now (w .entry)))
-        | Err f ↦ Finds (D·Delay .kind) (W·Wiring .net (now (w .entry))) f ] ⌝ }
+      | Ok _ ↦ Sound (D·Delay .kind) (W·Wiring .net (now (w .entry)))
+      | Err f ↦ Finds (D·Delay .kind) (W·Wiring .net (now (w .entry))) f
+    ] ⌝ }
 {
     let nodes = w.nodes();
     if nodes > MOST || w.places() > MOST {

@@ -169,12 +169,13 @@ impl<'a, D: Delay> Lengths<'a, D> {
     /// that breaks a limit, or a table that is too short, is refused and the table stays whole.
     pub fn fill_to<W: Wiring<D>>(&mut self, w: &W) -> Result<(), FillError>
         ensures answer { λ r. ⌜ elim r [
-            Ok _ ↦ Sound (D·Delay .kind) (W·Wiring .net (now (w .entry)))
-                × (W·Wiring .net (now (w .entry)) .nodes ≤ length (now (now (self .entry) .table)))
-                × HoldsTo (D·Delay .kind) (W·Wiring .net (now (w .entry))) (now (now (self .exit) .table))
-                × (drop (W·Wiring .net (now (w .entry)) .nodes) (now (now (self .exit) .table)) ≡ drop (W·Wiring .net (now (w .entry)) .nodes) (now (now (self .entry) .table)))
-            | Err e ↦ NotFilled (D·Delay .kind) (W·Wiring .net (now (w .entry))) (length (now (now (self .entry) .table))) e
-                × (now (now (self .exit) .table) ≡ now (now (self .entry) .table)) ] ⌝ }
+          | Ok _ ↦ Sound (D·Delay .kind) (W·Wiring .net (now (w .entry)))
+              × (W·Wiring .net (now (w .entry)) .nodes ≤ length (now (now (self .entry) .table)))
+              × HoldsTo (D·Delay .kind) (W·Wiring .net (now (w .entry))) (now (now (self .exit) .table))
+              × (drop (W·Wiring .net (now (w .entry)) .nodes) (now (now (self .exit) .table)) ≡ drop (W·Wiring .net (now (w .entry)) .nodes) (now (now (self .entry) .table)))
+          | Err e ↦ NotFilled (D·Delay .kind) (W·Wiring .net (now (w .entry))) (length (now (now (self .entry) .table))) e
+              × (now (now (self .exit) .table) ≡ now (now (self .entry) .table))
+        ] ⌝ }
         ensures lender { λ _. ⌜ name (now (self .exit) .table) ≡ name (now (self .entry) .table) ⌝ }
     {
         check(w)?;
@@ -189,12 +190,13 @@ impl<'a, D: Delay> Lengths<'a, D> {
     /// view. What stays and what is refused is as in `fill_to`.
     pub fn fill_from<W: Wiring<D>>(&mut self, w: &W) -> Result<(), FillError>
         ensures answer { λ r. ⌜ elim r [
-            Ok _ ↦ Sound (D·Delay .kind) (W·Wiring .net (now (w .entry)))
-                × (W·Wiring .net (now (w .entry)) .nodes ≤ length (now (now (self .entry) .table)))
-                × HoldsFrom (D·Delay .kind) (W·Wiring .net (now (w .entry))) (now (now (self .exit) .table))
-                × (drop (W·Wiring .net (now (w .entry)) .nodes) (now (now (self .exit) .table)) ≡ drop (W·Wiring .net (now (w .entry)) .nodes) (now (now (self .entry) .table)))
-            | Err e ↦ NotFilled (D·Delay .kind) (W·Wiring .net (now (w .entry))) (length (now (now (self .entry) .table))) e
-                × (now (now (self .exit) .table) ≡ now (now (self .entry) .table)) ] ⌝ }
+          | Ok _ ↦ Sound (D·Delay .kind) (W·Wiring .net (now (w .entry)))
+              × (W·Wiring .net (now (w .entry)) .nodes ≤ length (now (now (self .entry) .table)))
+              × HoldsFrom (D·Delay .kind) (W·Wiring .net (now (w .entry))) (now (now (self .exit) .table))
+              × (drop (W·Wiring .net (now (w .entry)) .nodes) (now (now (self .exit) .table)) ≡ drop (W·Wiring .net (now (w .entry)) .nodes) (now (now (self .entry) .table)))
+          | Err e ↦ NotFilled (D·Delay .kind) (W·Wiring .net (now (w .entry))) (length (now (now (self .entry) .table))) e
+              × (now (now (self .exit) .table) ≡ now (now (self .entry) .table))
+        ] ⌝ }
         ensures lender { λ _. ⌜ name (now (self .exit) .table) ≡ name (now (self .entry) .table) ⌝ }
     {
         check(w)?;

@@ -12,8 +12,14 @@ pub impl fmt::Display for Fault as FaultDisplay {
     fn fmt<W: fmt::Write>(&self, f: &mut fmt::Formatter<W>) -> fmt::Result {
         match self {
             Fault::Size => write!(f, "more than 4096 nodes or places"),
-            Fault::Ends(place) => write!(f, "lead {place} does not run from a lower node to a higher one inside the wiring"),
-            Fault::Delay(place) => write!(f, "lead {place} has a delay that its kind does not allow"),
+            Fault::Ends(place) => write!(
+                f,
+                "lead {place} does not run from a lower node to a higher one inside the wiring"
+            ),
+            Fault::Delay(place) => write!(
+                f,
+                "lead {place} has a delay that its kind does not allow"
+            ),
         }
     }
 }

@@ -18,4 +18,4 @@ rows-more {X} P xs n x R p =
     )
   where
     last : (d : X) → getD (xs ++ (x ∷ [])) n d ≡ x
-    last d = ap (λ m. getD (xs ++ (x ∷ [])) m d) (sym (R .0 ) ∙ omega arith) ∙ getD-append-add xs (x ∷ []) 0 d
+    last d = ap (λ m. getD (xs ++ (x ∷ [])) m d) (sym (R .0) ∙ omega arith) ∙ getD-append-add xs (x ∷ []) 0 d

@@ -86,11 +86,18 @@ fn lead_of<D: Delay>(place: Option<Wire>) -> Option<Lead<D>>
     ensures { λ r. ⌜ r ≡ place-of (D·Delay .kind) place ⌝ }
 {
     let wire = place?;
-    Some(Lead { tail: wire.tail as usize, head: wire.head as usize, delay: D::read(wire.picoseconds, wire.contacts) })
+    Some(Lead {
+        tail: wire.tail as usize,
+        head: wire.head as usize,
+        delay: D::read(wire.picoseconds, wire.contacts),
+    })
 }
 
 // The leads of all places.
-fn leads_of<D: Delay>(heap: Global, places: &[Option<Wire>]) -> Result<Vec<Option<Lead<D>>>, AllocError>
+fn leads_of<D: Delay>(
+    heap: Global,
+    places: &[Option<Wire>],
+) -> Result<Vec<Option<Lead<D>>>, AllocError>
     ensures { λ r. ⌜ made r (λ v. vec-items v ≡ map (place-of (D·Delay .kind)) (now (places .entry))) ⌝ }
 {
     let mut leads = Vec::new(heap);
@@ -105,7 +112,10 @@ fn report_as<D: Delay + fmt::Display>(heap: Global, list: &Netlist) -> Result<St
     ensures { λ r. ⌜ ReportedAs (D·Delay .kind) (now (list .entry)) r ⌝ }
 {
     let leads = leads_of::<D>(heap, list.places.as_slice())?;
-    let wiring = Table { nodes: list.nodes as usize, leads: leads.as_slice() };
+    let wiring = Table {
+        nodes: list.nodes as usize,
+        leads: leads.as_slice(),
+    };
     let survey = survey_of::<D, Table<D>>(heap, &wiring)?;
     let kind = list.kind;
     Ok(format!(heap, "kind {kind}\n{survey}")?)

@@ -40,7 +40,12 @@ fn zero_row<D: Delay>(heap: Global, entries: usize) -> Result<Vec<D>, AllocError
 }
 
 // A row for each node.
-fn node_rows<D: Delay, W: Wiring<D>>(heap: Global, w: &W, to: &mut Lengths<D>, from: &mut Lengths<D>) -> Result<Vec<NodeRow<D>>, AllocError>
+fn node_rows<D: Delay, W: Wiring<D>>(
+    heap: Global,
+    w: &W,
+    to: &mut Lengths<D>,
+    from: &mut Lengths<D>,
+) -> Result<Vec<NodeRow<D>>, AllocError>
     requires { ⌜ Filled (D·Delay .kind) (W·Wiring .net (now w)) (now (now to .table)) (now (now from .table)) ⌝ }
     ensures rows { λ r. ⌜ made r (λ v. Rows (NodeTold (D·Delay .kind) (W·Wiring .net (now (w .entry)))) (vec-items v) (W·Wiring .net (now (w .entry)) .nodes)) ⌝ }
     ensures to_kept { λ _. ⌜ now (now (to .exit) .table) ≡ now (now (to .entry) .table) ⌝ }
@@ -48,13 +53,21 @@ fn node_rows<D: Delay, W: Wiring<D>>(heap: Global, w: &W, to: &mut Lengths<D>, f
 {
     let mut rows = Vec::new(heap);
     for node in 0..w.nodes() {
-        rows.push(NodeRow { to: to.at(node), from: from.at(node) })?;
+        rows.push(NodeRow {
+            to: to.at(node),
+            from: from.at(node),
+        })?;
     }
     Ok(rows)
 }
 
 // The row of a place.
-fn place_row<D: Delay, W: Wiring<D>>(w: &W, to: &mut Lengths<D>, from: &mut Lengths<D>, place: usize) -> Option<LeadRow<D>>
+fn place_row<D: Delay, W: Wiring<D>>(
+    w: &W,
+    to: &mut Lengths<D>,
+    from: &mut Lengths<D>,
+    place: usize,
+) -> Option<LeadRow<D>>
     requires { ⌜ Filled (D·Delay .kind) (W·Wiring .net (now w)) (now (now to .table)) (now (now from .table)) ⌝ }
     ensures row { λ r. ⌜ PlaceTold (D·Delay .kind) (W·Wiring .net (now (w .entry))) place r ⌝ }
     ensures to_kept { λ _. ⌜ now (now (to .exit) .table) ≡ now (now (to .entry) .table) ⌝ }
@@ -63,11 +76,21 @@ fn place_row<D: Delay, W: Wiring<D>>(w: &W, to: &mut Lengths<D>, from: &mut Leng
     let lead = w.lead(place)?;
     let (drains, fed) = classify(w, to, from, place)?;
     let longest = longest_through(w, to, from, place)?;
-    Some(LeadRow { lead, drains, fed, longest })
+    Some(LeadRow {
+        lead,
+        drains,
+        fed,
+        longest,
+    })
 }
 
 // A row for each place.
-fn place_rows<D: Delay, W: Wiring<D>>(heap: Global, w: &W, to: &mut Lengths<D>, from: &mut Lengths<D>) -> Result<Vec<Option<LeadRow<D>>>, AllocError>
+fn place_rows<D: Delay, W: Wiring<D>>(
+    heap: Global,
+    w: &W,
+    to: &mut Lengths<D>,
+    from: &mut Lengths<D>,
+) -> Result<Vec<Option<LeadRow<D>>>, AllocError>
     requires { ⌜ Filled (D·Delay .kind) (W·Wiring .net (now w)) (now (now to .table)) (now (now from .table)) ⌝ }
     ensures { λ r. ⌜ made r (λ v. Rows (PlaceTold (D·Delay .kind) (W·Wiring .net (now (w .entry)))) (vec-items v) (W·Wiring .net (now (w .entry)) .places)) ⌝ }
 {
@@ -91,5 +114,9 @@ pub fn survey_of<D: Delay, W: Wiring<D>>(heap: Global, w: &W) -> Result<Survey<D
     let longest = work_out(w, &mut to, &mut from)?;
     let nodes = node_rows(heap, w, &mut to, &mut from)?;
     let places = place_rows(heap, w, &mut to, &mut from)?;
-    Ok(Survey { nodes, places, longest })
+    Ok(Survey {
+        nodes,
+        places,
+        longest,
+    })
 }

@@ -45,7 +45,10 @@ pub impl<D: Delay + fmt::Display> fmt::Display for Survey<D> as SurveyDisplay {
     }
 }
 
-fn write_nodes<D: Delay + fmt::Display, W: fmt::Write>(survey: &Survey<D>, f: &mut fmt::Formatter<W>) -> fmt::Result {
+fn write_nodes<D: Delay + fmt::Display, W: fmt::Write>(
+    survey: &Survey<D>,
+    f: &mut fmt::Formatter<W>,
+) -> fmt::Result {
     for (node, row) in survey.nodes.iter().enumerate() {
         let to = row.to;
         let from = row.from;
@@ -54,7 +57,10 @@ fn write_nodes<D: Delay + fmt::Display, W: fmt::Write>(survey: &Survey<D>, f: &m
     Ok(())
 }
 
-fn write_places<D: Delay + fmt::Display, W: fmt::Write>(survey: &Survey<D>, f: &mut fmt::Formatter<W>) -> fmt::Result {
+fn write_places<D: Delay + fmt::Display, W: fmt::Write>(
+    survey: &Survey<D>,
+    f: &mut fmt::Formatter<W>,
+) -> fmt::Result {
     for (place, row) in survey.places.iter().enumerate() {
         match row {
             Some(lead) => writeln!(f, "lead {place} {lead}")?,

@@ -184,8 +184,8 @@ module _ {D : Type 0} {K : Kind D} (L : Laws K) {N : Net D} (S : Sound K N) wher
       let wi : w < N .nodes = mirror-inside (N .nodes) (p .source) j in
       let e : mirror (N .nodes) w ≡ p .source = mirror-back (N .nodes) (p .source) j in
       let run : Run N v w (reverse (p .leads)) = M .back v w (reverse (p .leads)) i wi
-          (subst (Run (turned-net N) (mirror (N .nodes) w) (mirror (N .nodes) v)) (sym (reverse-reverse (p .leads)))
-          (subst (λ s. Run (turned-net N) s (mirror (N .nodes) v) (p .leads)) (sym e) (p .run))) in
+      (subst (Run (turned-net N) (mirror (N .nodes) w) (mirror (N .nodes) v)) (sym (reverse-reverse (p .leads)))
+      (subst (λ s. Run (turned-net N) s (mirror (N .nodes) v) (p .leads)) (sym e) (p .run))) in
       inl (record {
         sink = w;
         leads = reverse (p .leads);
@@ -215,8 +215,8 @@ module _ {D : Type 0} {K : Kind D} (L : Laws K) {N : Net D} (S : Sound K N) wher
             let zi : z < N .nodes = mirror-inside (N .nodes) u ui in
             let b : mirror (N .nodes) z ≡ u = mirror-back (N .nodes) u ui in
             let run : Run N v z (reverse ks) = M .back v z (reverse ks) i zi
-                (subst (Run (turned-net N) (mirror (N .nodes) z) (mirror (N .nodes) v)) (sym (reverse-reverse ks))
-                (subst (λ s. Run (turned-net N) s (mirror (N .nodes) v) ks) (sym b) r)) in
+            (subst (Run (turned-net N) (mirror (N .nodes) z) (mirror (N .nodes) v)) (sym (reverse-reverse ks))
+            (subst (λ s. Run (turned-net N) s (mirror (N .nodes) v) ks) (sym b) r)) in
             subst (λ y. Le K y x) (sym (turned-delay v z (reverse ks) zi run) ∙ ap (delayOf K (turned-net N)) (reverse-reverse ks))
             (p .longest z (reverse ks) (sym (M .inputs z zi) ∙ ap (isInput (turned-net N)) b ∙ e) run);
       })

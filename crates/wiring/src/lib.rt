@@ -87,9 +87,17 @@ pub impl<D: Copy, W: Wiring<D>> Wiring<D> for Turned<'_, W> as TurnedWiring {
         let n = Self::nodes(self);
         let l = self.under.lead(place)?;
         if l.tail < l.head && l.head < n {
-            Some(Lead { tail: n - 1 - l.head, head: n - 1 - l.tail, delay: l.delay })
+            Some(Lead {
+                tail: n - 1 - l.head,
+                head: n - 1 - l.tail,
+                delay: l.delay,
+            })
         } else {
-            Some(Lead { tail: 0, head: 0, delay: l.delay })
+            Some(Lead {
+                tail: 0,
+                head: 0,
+                delay: l.delay,
+            })
         }
     }
 }

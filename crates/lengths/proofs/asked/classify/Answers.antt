@@ -20,7 +20,7 @@ returns g c =
     let fed : c .level-fed .result ≡ level K (K .plus (entry K to (l .tail)) (l .delay)) (entry K to (l .head)) = cc in
     let pair : _≡_ {A = Bool × Bool} (c .level-drains .result, c .level-fed .result) (type-by K (entry K to) (entry K from) l) = λ i. (drains i, fed i) in
     let is : _≡_ {A = Option (Bool × Bool)} (Some (c .level-drains .result, c .level-fed .result)) (of-lead (type-by K (entry K to) (entry K from)) (N .at (c .args .place))) =
-        ap {B = Option (Bool × Bool)} (λ m. Some m) pair ∙ sym (ap (of-lead (type-by K (entry K to) (entry K from))) at) in
+    ap {B = Option (Bool × Bool)} (λ m. Some m) pair ∙ sym (ap (of-lead (type-by K (entry K to) (entry K from))) at) in
     record {
       marks = is;
       types = λ F. subst (TypeOf K N (c .args .place)) (sym is) (type-told K (g .D·Delay·met .laws) N to from F (c .args .place) (N .at (c .args .place)) refl);

@@ -28,18 +28,19 @@ loop-place-again g c =
     let inv = c .loop-place .inv in
     let within : (k : ℕ) (l : Lead (g .D .Denot)) → Holds N k l → Q l → Within K (value l) = λ k l h q. through-within L (c .pre .sound) (tables K L N to from (c .pre)) k l h in
     let e : c .longest-through .result ≡ of-lead value (N .at p) =
-        c .longest-through .ensures .delay
-        ∙ ap (λ x. of-lead (through-by K (entry K x) (entry K (now (c .loop-place .from .table)))) (N .at p)) (inv .1 .0)
-        ∙ ap (λ x. of-lead (through-by K (entry K to) (entry K x)) (N .at p)) (inv .2 .0) in
+    c .longest-through .ensures .delay
+    ∙ ap (λ x. of-lead (through-by K (entry K x) (entry K (now (c .loop-place .from .table)))) (N .at p)) (inv .1 .0)
+    ∙ ap (λ x. of-lead (through-by K (entry K to) (entry K x)) (N .at p)) (inv .2 .0) in
     let Inv : Option (g .D .Denot) → Type 0 = BestBelow K N Q value (p + 1) in (
       elim (c .match-longest-through .came) [
-        in-Some w ↦
-          let f = lead-from value (N .at p) (w .in-Some .delay) (sym e ∙ w .in-Some .is) in
-          let now-best : c .match-longest-through .best ≡ Some (longer-of K best (value (f .0))) =
-              w .best-is ∙ ap {B = Option (g .D .Denot)} (λ x. Some x) (w .longer .ensures ∙ ap (longer-of K best) (sym (f .2))) in
-          subst Inv (sym now-best) (best-more K L N Q value within p best (f .0) (inv .0) (f .1) tt)
+        | in-Some w ↦
+            let f = lead-from value (N .at p) (w .in-Some .delay) (sym e ∙ w .in-Some .is) in
+            let now-best : c .match-longest-through .best ≡ Some (longer-of K best (value (f .0))) =
+            w .best-is ∙ ap {B = Option (g .D .Denot)} (λ x. Some x) (w .longer .ensures ∙ ap (longer-of K best) (sym (f .2))) in
+            subst Inv (sym now-best) (best-more K L N Q value within p best (f .0) (inv .0) (f .1) tt)
         | in-rest w ↦
-          subst Inv (sym (w .best-is)) (best-skip K L N Q value within p best (inv .0) (λ l h q. w .in-rest .not-Some (value l) (e ∙ ap (of-lead value) h))) ],
+            subst Inv (sym (w .best-is)) (best-skip K L N Q value within p best (inv .0) (λ l h q. w .in-rest .not-Some (value l) (e ∙ ap (of-lead value) h)))
+      ],
       (c .longest-through .ensures .to-kept ∙ inv .1 .0, c .longest-through .ensures .to-lender ∙ inv .1 .1),
       (c .longest-through .ensures .from-kept ∙ inv .2 .0, c .longest-through .ensures .from-lender ∙ inv .2 .1),
     )

@@ -16,7 +16,7 @@ returns g c =
     let at : N .at (c .args .place) ≡ Some l = sym (c .lead .ensures) ∙ c .in-Continue-lead .was tt in
     let sum : c .plus .result ≡ through-by K (entry K to) (entry K from) l = cc in
     let is : _≡_ {A = Option (g .D .Denot)} (Some (c .plus .result)) (of-lead (through-by K (entry K to) (entry K from)) (N .at (c .args .place))) =
-        ap {B = Option (g .D .Denot)} (λ x. Some x) sum ∙ sym (ap (of-lead (through-by K (entry K to) (entry K from))) at) in
+    ap {B = Option (g .D .Denot)} (λ x. Some x) sum ∙ sym (ap (of-lead (through-by K (entry K to) (entry K from))) at) in
     record {
       delay = is;
       longest = λ F. subst (ThroughOf K N (c .args .place)) (sym is) (through-told K (g .D·Delay·met .laws) N to from F (c .args .place) (N .at (c .args .place)) refl);

@@ -18,7 +18,7 @@ returns-in-Some g c =
     let b = c .in-Some .ensures tt in
     let same = c .nodes-nodes .ensures in
     finds-first K N few (c .loop-place .place) (c .loop-place .inv) (c .in-Some .fault)
-      (b .0, sym (c .lead .ensures) ∙ b .1, subst (λ n. Breaks K n (c .loop-place .place) (b .0) (c .in-Some .fault)) same (b .2))
+    (b .0, sym (c .lead .ensures) ∙ b .1, subst (λ n. Breaks K n (c .loop-place .place) (b .0) (c .in-Some .fault)) same (b .2))
 
 pub returns : need.returns
 returns g c =

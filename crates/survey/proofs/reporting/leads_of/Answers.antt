@@ -15,7 +15,7 @@ loop-place-again g c =
     let h : i < length xs = omega arith in
     let items = c .in-Continue-push .ensures tt .items in
     let more : map f (take (i + 1) xs) ≡ map f (take i xs) ++ (f (getD xs i None) ∷ []) =
-        ap (map f) (take-more xs i None h) ∙ map-append f (take i xs) (getD xs i None ∷ []) in
+    ap (map f) (take-more xs i None h) ∙ map-append f (take i xs) (getD xs i None ∷ []) in
     items ∙ ap (λ ls. ls ++ (c .lead-of .result ∷ [])) (c .loop-place .inv) ∙ ap (λ l. map f (take i xs) ++ (l ∷ [])) (c .lead-of .ensures) ∙ sym more
 
 pub returns : need.returns
