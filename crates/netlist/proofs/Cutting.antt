@@ -1,13 +1,12 @@
 -- The lines of a text, by its cuts at byte 10.
-use mathlib.Core.Path.{_≡_, refl, sym, ap, subst, _∙_}
-use mathlib.Core.Bool.{Bool, true, false, cond}
+use mathlib.Core.Path.{_≡_, refl, sym, ap, _∙_}
+use mathlib.Core.Bool.{cond}
 use mathlib.Core.List.{List, [], _∷_, _++_}
-use Prim.Native.Nat.{ℕ, zero, suc, _+_, _-_, _<_, _≤_}
+use Prim.Native.Nat.{ℕ, suc, _+_, _-_, _<_}
 use native.Mathlib.Omega.{arith}
-use lib.Dec.{eqb}
-use lib.ListN.{length, getD, take, drop}
+use lib.ListN.{length, drop}
 use borrow.Author.Tests.{ne-eqb}
-use Rattle.std.proofs.shelf.Lists.{append-assoc, drop-at, drop-drop, drop-all, length-push, take-rest}
+use Rattle.std.proofs.shelf.Lists.{append-assoc, drop-at, drop-drop, length-push}
 use Rattle.netlist.specs.Texts.{Lacks, Splits}
 use Rattle.netlist.specs.Lines.{lines-of, onto}
 

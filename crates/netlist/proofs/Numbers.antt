@@ -1,16 +1,15 @@
 -- A number's text: digits whose value it is, with no zero in front.
-use mathlib.Core.Path.{_≡_, refl, sym, ap, subst, _∙_}
-use mathlib.Core.List.{List, [], _∷_, _++_}
-use mathlib.Core.Logic.{_⊎_, inl, inr, ⊎-elim}
+use mathlib.Core.Path.{_≡_, sym, ap, subst, _∙_}
+use mathlib.Core.List.{List, [], _∷_}
 use Prim.Native.Nat.{ℕ, zero, suc, _+_, _*_, _-_, _^_, _<_, _≤_}
 use native.Mathlib.Omega.{arith}
 use lib.ListN.{length, getD, drop}
-use Rattle.std.specs.Text.{In, Out, digitValue}
+use Rattle.std.specs.Text.{In, digitValue}
 use Rattle.std.specs.Reads.{valueAfter, value}
 use Rattle.std.specs.Written.{decimal}
 use Rattle.std.proofs.shelf.Lists.{at-drop-more}
 use Rattle.std.proofs.shelf.Numerals.{Numerals, numerals-by-value, tells-by-index, not-in-digits}
-use Rattle.std.proofs.shelf.Decimals.{decimal-digit, decimal-some, first-decimal, digits-decimal, value-decimal, decimal-value}
+use Rattle.std.proofs.shelf.Decimals.{decimal-digit, decimal-some, first-decimal, digits-decimal, value-decimal}
 use Rattle.netlist.specs.Texts.{Below, Lacks}
 
 abbrev pub DigitBytes : List ℕ → Type 0

@@ -15,7 +15,7 @@ use Rattle.netlist.specs.declared.KindName.the-variants.{Late, Contact, Early}
 use Rattle.netlist.specs.declared.Wire.{Wire}
 use Rattle.std.specs.shelf.Lists.{All}
 use Rattle.std.proofs.shelf.Lists.{append-assoc, length-map, map-push}
-use Rattle.netlist.specs.Texts.{Below, SoundPlace, place-text}
+use Rattle.netlist.specs.Texts.{Below, PlaceInRange, place-text}
 use Rattle.netlist.specs.Forms.{lead-form}
 use Rattle.netlist.specs.Outcomes.{Meets, Fails, head-lines, places}
 
@@ -26,11 +26,11 @@ passed-on P None e x (Err y) Q h k q = let same : e ≡ y = cc in subst Q same q
 passed-on P (Some t) e x (Err y) Q h k q = absurd (let z : _≡_ {A = ℕ} 0 1 = cc in omega arith)
 
 -- kinds that read no contacts have one form of a lead
-early-place : (p : Option Wire) → SoundPlace Late p → SoundPlace Early p
+early-place : (p : Option Wire) → PlaceInRange Late p → PlaceInRange Early p
 early-place None s = tt
 early-place (Some w) s = record { tail = s .tail; head = s .head; picoseconds = s .picoseconds; contacts = s .contacts }
 
-pub late-place : (p : Option Wire) → SoundPlace Early p → SoundPlace Late p
+pub late-place : (p : Option Wire) → PlaceInRange Early p → PlaceInRange Late p
 late-place None s = tt
 late-place (Some w) s = record { tail = s .tail; head = s .head; picoseconds = s .picoseconds; contacts = s .contacts }
 
@@ -38,7 +38,7 @@ pub plain-text : (p : Option Wire) → place-text Late p ≡ place-text Early p
 plain-text None = refl
 plain-text (Some w) = refl
 
-pub no-place : (k : KindName) (line : List ℕ) → ((p : Option Wire) → SoundPlace k p → line ≡ place-text k p → ⊥) → Meets (lead-form k) line → ⊥
+pub no-place : (k : KindName) (line : List ℕ) → ((p : Option Wire) → PlaceInRange k p → line ≡ place-text k p → ⊥) → Meets (lead-form k) line → ⊥
 no-place Late line h m = h (m .0) (m .1) (m .2)
 no-place Contact line h m = h (m .0) (m .1) (m .2)
 no-place Early line h m = h (m .0) (early-place (m .0) (m .1)) (m .2 ∙ plain-text (m .0))
@@ -51,7 +51,7 @@ place-more k n items p ls rest more line e f g =
     ∙ ap (head-lines k n) (sym (append-assoc (map (place-text k) items) (place-text k p ∷ []) more) ∙ ap (λ xs. xs ++ more) (sym (map-push (place-text k) items p)))
 
 -- the next line is no place
-pub place-fails : (k : KindName) (n : ℕ) (items : List (Option Wire)) (ls rest more : List (List ℕ)) (line : List ℕ) (number : ℕ) → ls ≡ head-lines k n (map (place-text k) items ++ rest) → rest ≡ line ∷ more → Below 32 n → All (SoundPlace k) items → number ≡ length items + 3 → ((p : Option Wire) → SoundPlace k p → line ≡ place-text k p → ⊥) → Fails ls number (lead-form k)
+pub place-fails : (k : KindName) (n : ℕ) (items : List (Option Wire)) (ls rest more : List (List ℕ)) (line : List ℕ) (number : ℕ) → ls ≡ head-lines k n (map (place-text k) items ++ rest) → rest ≡ line ∷ more → Below 32 n → All (PlaceInRange k) items → number ≡ length items + 3 → ((p : Option Wire) → PlaceInRange k p → line ≡ place-text k p → ⊥) → Fails ls number (lead-form k)
 place-fails k n items ls rest more line number e f l s count bad =
     record {
       before = head-lines k n (map (place-text k) items);

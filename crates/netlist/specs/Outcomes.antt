@@ -18,7 +18,7 @@ use Rattle.netlist.specs.declared.Expected.{Expected}
 use Rattle.netlist.specs.declared.Expected.the-variants.{Kind, Nodes, Lead, LeadWithContacts}
 use Rattle.netlist.specs.declared.ReadError.{ReadError}
 use Rattle.netlist.specs.declared.ReadError.the-variants.{Line, NoMemory}
-use Rattle.netlist.specs.Texts.{Below, SoundPlace, kind-text, place-text}
+use Rattle.netlist.specs.Texts.{Below, PlaceInRange, kind-text, place-text}
 use Rattle.netlist.specs.Forms.{lead-form}
 
 -- the first two lines
@@ -29,20 +29,20 @@ head-lines k n more = kind-text k ∷ (decimal n ∷ more)
 pub record Written (lines : List (List ℕ)) (n : Netlist) : Type 0 where
   pub whole : lines ≡ head-lines (n .kind) (n .nodes) (map (place-text (n .kind)) (vec-items (n .places)))
   pub nodes : Below 32 (n .nodes)
-  pub places : All (SoundPlace (n .kind)) (vec-items (n .places))
+  pub places : All (PlaceInRange (n .kind)) (vec-items (n .places))
 
 -- a good start of a netlist, and what has to follow it
 pub data Due : List (List ℕ) → Expected → Type 0 where
   none : Due [] Kind
   kind : (k : KindName) → Due (kind-text k ∷ []) Nodes
-  places : (k : KindName) (n : ℕ) (ps : List (Option Wire)) → Below 32 n → All (SoundPlace k) ps → Due (head-lines k n (map (place-text k) ps)) (lead-form k)
+  places : (k : KindName) (n : ℕ) (ps : List (Option Wire)) → Below 32 n → All (PlaceInRange k) ps → Due (head-lines k n (map (place-text k) ps)) (lead-form k)
 
 -- the line is as expected
 abbrev pub Meets : Expected → List ℕ → Type 0
 Meets Kind line = (k : KindName) × (line ≡ kind-text k)
 Meets Nodes line = (n : ℕ) × Below 32 n × (line ≡ decimal n)
-Meets Lead line = (p : Option Wire) × SoundPlace Late p × (line ≡ place-text Late p)
-Meets LeadWithContacts line = (p : Option Wire) × SoundPlace Contact p × (line ≡ place-text Contact p)
+Meets Lead line = (p : Option Wire) × PlaceInRange Late p × (line ≡ place-text Late p)
+Meets LeadWithContacts line = (p : Option Wire) × PlaceInRange Contact p × (line ≡ place-text Contact p)
 
 -- a netlist does not end before such a line
 abbrev pub Needed : Expected → Type 0
@@ -66,9 +66,9 @@ pub record Fails (lines : List (List ℕ)) (number : ℕ) (e : Expected) : Type 
   pub wrong : Wrong e after
 
 -- why the lines are refused
-abbrev pub Refusal : List (List ℕ) → ReadError → Type 0
-Refusal lines (Line number e) = Fails lines number e
-Refusal lines NoMemory = Unit {0}
+abbrev pub NotRead : List (List ℕ) → ReadError → Type 0
+NotRead lines (Line number e) = Fails lines number e
+NotRead lines NoMemory = Unit {0}
 
 -- m has what n has
 pub record Same (m n : Netlist) : Type 0 where
@@ -84,5 +84,5 @@ Back n (Err NoMemory) = Unit {0}
 
 -- what reading the lines answers: the netlist that they are of, and no other answer to a netlist's own
 pub record Outcome (lines : List (List ℕ)) (r : Result Netlist ReadError) : Type 0 where
-  pub gives : Cases r (Written lines) (Refusal lines)
+  pub gives : Cases r (Written lines) (NotRead lines)
   pub back : (n : Netlist) → Written lines n → Back n r

@@ -1,6 +1,6 @@
 -- What each part of a wiring is as text, and what it is to read one back.
 use mathlib.Core.Path.{_≡_}
-use mathlib.Core.List.{List, [], _∷_, _++_}
+use mathlib.Core.List.{List, _∷_, _++_}
 use Prim.Native.Nat.{ℕ, _^_, _<_}
 use lib.ListN.{length, getD}
 use lib.Chars.{codes}
@@ -15,6 +15,11 @@ use Rattle.netlist.specs.declared.Wire.{Wire}
 -- r is the value whose text bs is, and nothing where bs is the text of no fit value
 abbrev pub Reads : {A : Type 0} → (A → Type 0) → (A → List ℕ) → List ℕ → Option A → Type 0
 Reads {A} Fit text bs r = Cases r ((x : A) → Fit x → bs ≡ text x → ⊥) (λ x. Fit x × (bs ≡ text x))
+
+-- the same, and each fit value's text reads as that value
+pub record Exactly {A : Type 0} (Fit : A → Type 0) (text : A → List ℕ) (bs : List ℕ) (r : Option A) : Type 0 where
+  pub gives : Reads Fit text bs r
+  pub back : (x : A) → Fit x → bs ≡ text x → r ≡ Some x
 
 -- no byte of bs is c
 abbrev pub Lacks : ℕ → List ℕ → Type 0
@@ -65,12 +70,12 @@ abbrev pub Timed : KindName → ℕ × ℕ → Type 0
 Timed k d = Below 32 (d .0) × Counted k (d .1)
 
 -- the numbers of a lead are in range
-pub record Sound (k : KindName) (w : Wire) : Type 0 where
+pub record InRange (k : KindName) (w : Wire) : Type 0 where
   pub tail : Below 32 (w .tail)
   pub head : Below 32 (w .head)
   pub picoseconds : Below 32 (w .picoseconds)
   pub contacts : Counted k (w .contacts)
 
 -- the same of a place, where a lead stands at it
-abbrev pub SoundPlace : KindName → Option Wire → Type 0
-SoundPlace k p = Cases p (Unit {0}) (Sound k)
+abbrev pub PlaceInRange : KindName → Option Wire → Type 0
+PlaceInRange k p = Cases p (Unit {0}) (InRange k)

@@ -1,10 +1,10 @@
-// The parts of a line: numbers, the name of a kind, a place.
+//! The parts of a line: numbers, the name of a kind, a place.
 ghost use mathlib.Core.Path.{_≡_};
 ghost use Prim.Native.Nat.{_+_, _<_};
 ghost use Rattle.std.specs.Options.{Cases};
 ghost use Rattle.std.specs.Text.{Out};
 ghost use Rattle.std.specs.Written.{decimal};
-ghost use Rattle.netlist.specs.Texts.{Reads, Lacks, Splits, Below, Any, Timed, Sound, SoundPlace, kind-text, delay-text, wire-text, place-text};
+ghost use Rattle.netlist.specs.Texts.{Reads, Exactly, Lacks, Splits, Below, Any, Timed, InRange, PlaceInRange, kind-text, delay-text, wire-text, place-text};
 use crate::KindName;
 use crate::Wire;
 
@@ -30,9 +30,9 @@ fn read_digit(byte: u8) -> Option<u32>
     }
 }
 
-// A number that fits 32 bits, in decimal, with no zero in front of its digits.
+/// A number that fits 32 bits, in decimal, with no zero in front of its digits.
 pub fn read_number(text: &[u8]) -> Option<u32>
-    ensures { λ r. ⌜ Reads (Below 32) decimal (now (text .entry)) r ⌝ }
+    ensures { λ r. ⌜ Exactly (Below 32) decimal (now (text .entry)) r ⌝ }
 {
     if text.is_empty() {
         return None;
@@ -56,9 +56,9 @@ fn read_contacts(text: &[u8]) -> Option<u8>
     u8::try_from(n).ok()
 }
 
-// The kind that a line names.
+/// The kind that a line names.
 pub fn read_kind(line: &[u8]) -> Option<KindName>
-    ensures { λ r. ⌜ Reads Any kind-text (now (line .entry)) r ⌝ }
+    ensures { λ r. ⌜ Exactly Any kind-text (now (line .entry)) r ⌝ }
 {
     match line {
         b"late" => Some(KindName::Late),
@@ -83,7 +83,7 @@ fn read_delay(kind: KindName, text: &[u8]) -> Option<(u32, u8)>
 
 // A lead, as `tail-head:delay`.
 fn read_wire(kind: KindName, line: &[u8]) -> Option<Wire>
-    ensures { λ r. ⌜ Reads (Sound kind) (wire-text kind) (now (line .entry)) r ⌝ }
+    ensures { λ r. ⌜ Reads (InRange kind) (wire-text kind) (now (line .entry)) r ⌝ }
 {
     let (tail, rest) = split_once(line, b'-')?;
     let (head, rest) = split_once(rest, b':')?;
@@ -98,9 +98,9 @@ fn read_wire(kind: KindName, line: &[u8]) -> Option<Wire>
     })
 }
 
-// A line of a place: a lead, or a dash where it is vacant.
+/// A line of a place: a lead, or a dash where it is vacant.
 pub fn read_place(kind: KindName, line: &[u8]) -> Option<Option<Wire>>
-    ensures { λ r. ⌜ Reads (SoundPlace kind) (place-text kind) (now (line .entry)) r ⌝ }
+    ensures { λ r. ⌜ Exactly (PlaceInRange kind) (place-text kind) (now (line .entry)) r ⌝ }
 {
     if line == b"-" {
         return Some(None);

@@ -1,8 +1,8 @@
-// Reads the text of a small wiring, a circuit as a list of leads.
-//
-// The first line names the kind of delay, the second has the number of nodes, and each further
-// line is a place: `-` where it is vacant, or a lead, as `0-2:3`. Under the kind `contact` a lead
-// also has its contacts, as `0-2:3/1`. A number is decimal, with no sign and no leading zero.
+//! Reads the text of a small wiring, a circuit as a list of leads.
+//!
+//! The first line names the kind of delay, the second has the number of nodes, and each further
+//! line is a place: `-` where it is vacant, or a lead, as `0-2:3`. Under the kind `contact` a lead
+//! also has its contacts, as `0-2:3/1`. A number is decimal, with no sign and no leading zero.
 ghost use mathlib.Core.Path.{_≡_};
 ghost use Rattle.std.specs.declared.option.Option.the-variants.{Some};
 ghost use Rattle.netlist.specs.declared.ReadError.the-variants.{NoMemory};
@@ -21,7 +21,7 @@ pub use fields::read_place;
 pub use lines::LineReader;
 pub use reading::read_netlist;
 
-// The kind of a wiring's delays. Under `Contact` each lead has a number of contacts beside its delay.
+/// The kind of a wiring's delays. Under `Contact` each lead has a number of contacts beside its delay.
 #[derive(Clone, Copy, PartialEq, Eq, Debug)]
 pub enum KindName {
     Late,
@@ -30,7 +30,7 @@ pub enum KindName {
 }
 
 impl KindName {
-    // What a line that is no place of this kind should have been.
+    /// What a line that is no place of this kind should have been.
     pub fn lead(self) -> Expected
         ensures { λ r. ⌜ r ≡ lead-form self ⌝ }
     {
@@ -41,7 +41,7 @@ impl KindName {
     }
 }
 
-// A lead from the node `tail` to the node `head`. Under a kind without contacts it has 0 of them.
+/// A lead from the node `tail` to the node `head`. Under a kind without contacts it has 0 of them.
 #[derive(Clone, Copy, PartialEq, Eq, Debug)]
 pub struct Wire {
     pub tail: u32,
@@ -50,7 +50,7 @@ pub struct Wire {
     pub contacts: u8,
 }
 
-// A wiring: the places are numbered from 0, and `None` stands at a vacant one.
+/// A wiring: the places are numbered from 0, and `None` stands at a vacant one.
 #[derive(PartialEq, Eq, Debug, Drop)]
 pub struct Netlist {
     pub kind: KindName,
@@ -58,7 +58,7 @@ pub struct Netlist {
     pub places: Vec<Option<Wire>>,
 }
 
-// What a line should have been.
+/// What a line should have been.
 #[derive(Clone, Copy, PartialEq, Eq, Debug)]
 pub enum Expected {
     Kind,
@@ -67,7 +67,7 @@ pub enum Expected {
     LeadWithContacts,
 }
 
-// Why a text is not read. Lines are numbered from 1; the first two have to be there.
+/// Why a text is not read. Lines are numbered from 1; the first two have to be there.
 #[derive(Clone, Copy, PartialEq, Eq, Debug)]
 pub enum ReadError {
     Line { number: usize, expected: Expected },

@@ -1,11 +1,11 @@
-// The lines of a text: each byte 10 ends one, and at the end of the text it may be missing.
+//! The lines of a text: each byte 10 ends one, and at the end of the text it may be missing.
 ghost use mathlib.Core.Path.{_≡_};
 ghost use mathlib.Core.List.{[], _∷_};
 ghost use Rattle.std.specs.Options.{Cases};
 ghost use Rattle.netlist.specs.Lines.{lines-of, ahead};
 use crate::fields::split_once;
 
-// Hands out the lines of `bytes` from the offset `at` on.
+/// Hands out the lines of `bytes` from the offset `at` on.
 #[derive(Clone, Copy)]
 pub struct LineReader<'a> {
     pub bytes: &'a [u8],
@@ -13,7 +13,7 @@ pub struct LineReader<'a> {
 }
 
 impl<'a> LineReader<'a> {
-    // A reader of the whole text.
+    /// A reader of the whole text.
     pub fn new(bytes: &'a [u8]) -> LineReader<'a>
         ensures text { λ r. ⌜ now (r .bytes) ≡ now (bytes .entry) ⌝ }
         ensures start { λ r. ⌜ r .at ≡ 0 ⌝ }
@@ -21,7 +21,7 @@ impl<'a> LineReader<'a> {
         LineReader { bytes, at: 0 }
     }
 
-    // The next line, with no byte 10; `None` past the last one.
+    /// The next line, with no byte 10; `None` past the last one.
     pub fn next_line(&mut self) -> Option<&'a [u8]>
         ensures gives { λ r. ⌜ Cases r (lines-of (ahead (now (self .entry))) ≡ []) (λ line. lines-of (ahead (now (self .entry))) ≡ now line ∷ lines-of (ahead (now (self .exit)))) ⌝ }
         ensures same { λ _. ⌜ now (now (self .exit) .bytes) ≡ now (now (self .entry) .bytes) ⌝ }

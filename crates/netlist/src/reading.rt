@@ -1,9 +1,9 @@
-// A whole text, line by line.
+//! A whole text, line by line.
 ghost use mathlib.Core.Path.{_≡_};
 ghost use Rattle.std.specs.Results.{Cases};
 ghost use Rattle.netlist.specs.Texts.{Below};
 ghost use Rattle.netlist.specs.Lines.{lines-of, ahead};
-ghost use Rattle.netlist.specs.Outcomes.{Refusal, Outcome, head-lines};
+ghost use Rattle.netlist.specs.Outcomes.{NotRead, Outcome, head-lines};
 use crate::Expected;
 use crate::KindName;
 use crate::Netlist;
@@ -17,7 +17,7 @@ use std::alloc::Global;
 
 // The first two lines: the kind and the number of nodes.
 fn read_head(lines: &mut LineReader<'_>) -> Result<(KindName, u32), ReadError>
-    ensures gives { λ r. ⌜ Cases r (λ h. Below 32 (h .1) × (lines-of (ahead (now (lines .entry))) ≡ head-lines (h .0) (h .1) (lines-of (ahead (now (lines .exit)))))) (Refusal (lines-of (ahead (now (lines .entry))))) ⌝ }
+    ensures gives { λ r. ⌜ Cases r (λ h. Below 32 (h .1) × (lines-of (ahead (now (lines .entry))) ≡ head-lines (h .0) (h .1) (lines-of (ahead (now (lines .exit)))))) (NotRead (lines-of (ahead (now (lines .entry))))) ⌝ }
     ensures same { λ _. ⌜ now (now (lines .exit) .bytes) ≡ now (now (lines .entry) .bytes) ⌝ }
 {
     let no_kind = ReadError::Line {
@@ -35,7 +35,7 @@ fn read_head(lines: &mut LineReader<'_>) -> Result<(KindName, u32), ReadError>
     Ok((kind, nodes))
 }
 
-// The netlist whose text this is, or the first line that is not as it should be.
+/// The netlist whose text this is, or the first line that is not as it should be.
 pub fn read_netlist(heap: Global, text: &[u8]) -> Result<Netlist, ReadError>
     ensures { λ r. ⌜ Outcome (lines-of (now (text .entry))) r ⌝ }
 {

@@ -16,7 +16,7 @@ use Rattle.netlist.specs.declared.Wire.{Wire}
 use Rattle.netlist.specs.declared.Netlist.{Netlist}
 use Rattle.netlist.specs.declared.KindName.{KindName}
 use Rattle.netlist.specs.declared.KindName.the-variants.{Late, Contact, Early}
-use Rattle.netlist.specs.Outcomes.{Refusal, Written}
+use Rattle.netlist.specs.Outcomes.{NotRead, Written}
 use Rattle.netlist.specs.Forms.{error-text}
 use Rattle.survey.specs.declared.reporting.ReportError.{ReportError}
 use Rattle.survey.specs.declared.reporting.ReportError.the-variants.{Text, Wiring}
@@ -51,6 +51,6 @@ ReportedOf Early = ReportedAs (early-kind picosecond-kind)
 
 -- what reporting on these lines answers: a line that is not as it should be is told before anything of the wiring
 abbrev pub Reported : {T : Type 0} → List (List ℕ) → Result T ReportError → Type 0
-Reported lines (Err (Text e)) = Refusal lines e
+Reported lines (Err (Text e)) = NotRead lines e
 Reported {T} lines (Err (Wiring e)) = (n : Netlist) × Written lines n × ReportedOf {T = T} (n .kind) n (Err (Wiring e))
 Reported lines (Ok text) = (n : Netlist) × Written lines n × ReportedOf (n .kind) n (Ok text)

@@ -1,4 +1,3 @@
-use borrow.Author.Needs.{needs}
 use Rattle.netlist.proofs.ExpectedDisplay.fmt.Needs as need
 
 pub returns-in-Kind : need.returns-in-Kind

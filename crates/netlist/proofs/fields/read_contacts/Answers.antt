@@ -18,5 +18,5 @@ narrowed bs n (Err x) l e h = λ m s f. h (omega (arith, same-from-decimal n m (
 
 pub returns : need.returns
 returns c =
-    let read = c .in-Continue-n .ensures tt in
+    let read = c .in-Continue-n .ensures tt .gives in
     rw (c .ok .ensures .value) (narrowed (c .args .text .now) (c .in-Continue-n .n) (c .try-from .result) (read .0) (read .1) (c .try-from .ensures))

@@ -1,10 +1,4 @@
-use mathlib.Core.Path.{_≡_, sym, subst}
-use mathlib.Core.List.{List}
-use Prim.Native.Nat.{ℕ}
 use native.Mathlib.Omega.{arith}
-use Rattle.std.specs.declared.option.Option.the-variants.{None}
-use Rattle.netlist.specs.declared.KindName.{KindName}
-use Rattle.netlist.specs.Texts.{Reads, Timed, delay-text}
 use Rattle.netlist.proofs.Splitting.{no-cut, number-cut}
 use Rattle.netlist.proofs.fields.read_delay.Needs as need
 
@@ -17,7 +11,7 @@ returns-in-Break-read-number c =
     rw (c .from-residual-in-Break-read-number .ensures, c .in-Contact .is)
     (λ d s e.
     let cut = number-cut 47 (d .0) (c .args .text .now) _ _ _ (s .0) (λ h. omega arith) (c .in-Continue-delay .ensures tt) e in
-    c .in-Break-read-number .ensures tt (d .0) (s .0) (cut .0))
+    c .in-Break-read-number .ensures tt .gives (d .0) (s .0) (cut .0))
 
 pub returns-in-Break-read-contacts : need.returns-in-Break-read-contacts
 returns-in-Break-read-contacts c =

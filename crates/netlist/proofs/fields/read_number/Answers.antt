@@ -1,36 +1,39 @@
-use borrow.Author.Needs.{needs}
 use borrow.Author.Count.{below-more}
 use borrow.Author.Tests.{true-eqb, false-eqb}
 use mathlib.Core.Path.{_≡_, sym, _∙_, ap}
 use Prim.Native.Nat.{ℕ, _+_, _*_, _<_}
 use native.Mathlib.Omega.{arith}
 use lib.ListN.{length, getD, drop}
+use Rattle.std.specs.declared.option.Option.the-variants.{None}
 use Rattle.std.proofs.shelf.Decimals.{decimal-value}
 use Rattle.std.proofs.shelf.Lists.{at-drop-all}
 use Rattle.std.specs.Reads.{valueAfter, value}
 use Rattle.std.specs.Text.{In}
 use Rattle.std.specs.Written.{decimal}
 use Rattle.netlist.proofs.Numbers.{own, text-of, value-step, too-big}
+use Rattle.netlist.proofs.Unique.{exact-number}
 use Rattle.netlist.proofs.fields.read_number.Needs as need
 use Rattle.netlist.proofs.fields.read_number.Needs.{else-text-gt1·by·then-text-gt1·else-text-eq48, else-text-gt1·by·else-text-gt1}
 
 pub returns-then-is-empty : need.returns-then-is-empty
-returns-then-is-empty c n l e = let t = text-of (c .args .text .now) n l e in omega (arith, true-eqb _ _ (c .if-is-empty .ensures tt))
+returns-then-is-empty c =
+    exact-number _ _ (λ n l e. let t = text-of (c .args .text .now) n l e in omega (arith, true-eqb _ _ (c .if-is-empty .ensures tt)))
 
 pub returns-then-text-eq48 : need.returns-then-text-eq48
-returns-then-text-eq48 c n l e = let t = text-of (c .args .text .now) n l e in omega (arith, t .front (c .if-text-eq48 .taken))
+returns-then-text-eq48 c =
+    exact-number _ _ (λ n l e. let t = text-of (c .args .text .now) n l e in omega (arith, t .front (omega arith)))
 
 pub returns-in-Break-digit : need.returns-in-Break-digit
 returns-in-Break-digit c =
     rw (c .from-residual .ensures)
-    (λ n l e. let t = text-of (c .args .text .now) n l e in omega (arith, t .digits (c .loop-byte .byte-index) (c .loop-byte-test .taken), c .in-Break-digit .ensures tt))
+    (exact-number _ None (λ n l e. let t = text-of (c .args .text .now) n l e in omega (arith, t .digits (c .loop-byte .byte-index) (c .loop-byte-test .taken), c .in-Break-digit .ensures tt)))
 
 pub returns-in-Break-checked-mul : need.returns-in-Break-checked-mul
 returns-in-Break-checked-mul c =
     let d = c .in-Continue-digit .ensures tt in
     let big = c .in-Break-checked-mul .ensures tt in
     rw (c .from-residual-in-Break-checked-mul .ensures)
-    (λ m. too-big (c .args .text .now) (c .loop-byte .byte-index) (c .loop-byte .n) (c .in-Continue-digit .digit) m (c .loop-byte-test .taken) (d .0) (d .1) (c .loop-byte .inv .1) (λ h. big (omega arith)))
+    (exact-number _ None (λ m. too-big (c .args .text .now) (c .loop-byte .byte-index) (c .loop-byte .n) (c .in-Continue-digit .digit) m (c .loop-byte-test .taken) (d .0) (d .1) (c .loop-byte .inv .1) (λ h. big (omega arith))))
 
 pub returns-in-Break-n : need.returns-in-Break-n
 returns-in-Break-n c =
@@ -38,7 +41,7 @@ returns-in-Break-n c =
     let p = c .in-Continue-checked-mul .ensures tt in
     let big = c .in-Break-n .ensures tt in
     rw (c .from-residual-in-Break-n .ensures)
-    (λ m. too-big (c .args .text .now) (c .loop-byte .byte-index) (c .loop-byte .n) (c .in-Continue-digit .digit) m (c .loop-byte-test .taken) (d .0) (d .1) (c .loop-byte .inv .1) (λ h. big (omega arith)))
+    (exact-number _ None (λ m. too-big (c .args .text .now) (c .loop-byte .byte-index) (c .loop-byte .n) (c .in-Continue-digit .digit) m (c .loop-byte-test .taken) (d .0) (d .1) (c .loop-byte .inv .1) (λ h. big (omega arith))))
 
 pub loop-byte-again : need.loop-byte-again
 loop-byte-again c =
@@ -61,4 +64,4 @@ returns c =
     let some : 0 < length bs = omega (arith, false-eqb _ _ (c .if-is-empty .ensures tt)) in
     let front : getD bs 0 0 ≡ 48 → length bs ≡ 1 = λ z. elim (c .else-text-gt1 .came) [ else-text-gt1·by·then-text-gt1·else-text-eq48 w ↦ absurd (w .if-text-eq48 .left z) | else-text-gt1·by·else-text-gt1 w ↦ omega (arith, w .if-text-gt1 .left, some) ] in
     let back = decimal-value own bs all some front (omega arith) in
-    (omega arith, sym back ∙ ap decimal (sym is))
+    exact-number bs _ (omega arith, sym back ∙ ap decimal (sym is))

@@ -1,4 +1,3 @@
-use borrow.Author.Needs.{needs}
 use Rattle.netlist.proofs.Splitting.{splits-at}
 use Rattle.netlist.proofs.fields.split_once.Needs as need
 
