@@ -4,6 +4,7 @@ ghost use Rattle.std.specs.declared.option.Option.the-variants.{Some, None};
 ghost use Rattle.std.specs.declared.result.Result.the-variants.{Ok, Err};
 ghost use Rattle.wiring.specs.declared.Lead.{Lead as LeadRecord};
 ghost use Rattle.wiring.specs.Net.{Sound};
+ghost use Rattle.lengths.specs.declared.check.Fault.{Fault as FaultCase};
 ghost use Rattle.lengths.specs.Check.{Keeps, Breaks, Finds, refusal-of};
 use delay::Delay;
 use wiring::Lead;
@@ -56,10 +57,12 @@ fn fault_at<D: Delay>(nodes: usize, place: usize, lead: Option<Lead<D>>) -> Opti
 
 /// Checks a wiring for a kind of delay: the size first, then every lead in ascending place number.
 pub fn check<D: Delay, W: Wiring<D>>(w: &W) -> Result<(), Fault>
-    ensures { λ r. ⌜ elim r [
+    ensures found { λ r. ⌜ elim r [
       | Ok _ ↦ Sound (D·Delay .kind) (W·Wiring .net (now (w .entry)))
       | Err f ↦ Finds (D·Delay .kind) (W·Wiring .net (now (w .entry))) f
     ] ⌝ }
+    ensures fault { λ r. ⌜ ((f : FaultCase) → Finds (D·Delay .kind) (W·Wiring .net (now (w .entry))) f → r ≡ Err f) ⌝ }
+    ensures none { λ r. ⌜ (Sound (D·Delay .kind) (W·Wiring .net (now (w .entry))) → r ≡ Ok tt) ⌝ }
 {
     let nodes = w.nodes();
     if nodes > MOST || w.places() > MOST {
