@@ -65,3 +65,41 @@ module _ {D : Type 0} (K : Kind D) (N : Net D) where
       (λ p. let w = p .1 .2 in
       breaks-not-keeps (p .0) (w .0) f (w .2) ((S .upwards (p .0) (w .0) (w .1), S .inside (p .0) (w .0) (w .1)), S .lawful (p .0) (w .0) (w .1)))
       (found f h)
+
+  keeps-or-breaks : (k : ℕ) (l : Lead D) → Keeps K (N .nodes) l ⊎ ((f : Fault) × Breaks K (N .nodes) k l f)
+  keeps-or-breaks k l = ⊎-elim
+      (λ a. ⊎-elim
+      (λ b. ⊎-elim (λ c. inl ((a, b), c)) (λ c. inr (Delay k, (refl, (a, b), c))) (cases-bool (K .lawful (l .delay))))
+      (λ b. inr (Ends k, (refl, λ e. omega (arith, e .1))))
+      (cases-lt (l .head) (N .nodes)))
+      (λ a. inr (Ends k, (refl, λ e. omega (arith, e .0))))
+      (cases-lt (l .tail) (l .head))
+
+  place-or-breaks : (k : ℕ) → ((l : Lead D) → Holds N k l → Keeps K (N .nodes) l) ⊎ ((f : Fault) × (l : Lead D) × Holds N k l × Breaks K (N .nodes) k l f)
+  place-or-breaks k = go (N .at k) refl
+    where
+      go : (o : Option (Lead D)) → N .at k ≡ o → ((l : Lead D) → Holds N k l → Keeps K (N .nodes) l) ⊎ ((f : Fault) × (l : Lead D) × Holds N k l × Breaks K (N .nodes) k l f)
+      go None e = inl (λ l h. let z : _≡_ {A = ℕ} 0 1 = cc in absurd (omega arith))
+      go (Some m) e = ⊎-elim
+          (λ p. inl (λ l h. subst (Keeps K (N .nodes)) (one-lead N k e h) p))
+          (λ p. inr (p .0, m, e, p .1))
+          (keeps-or-breaks k m)
+
+  keeps-or-finds : Sized N → (n : ℕ) → KeepsBelow K N n ⊎ ((f : Fault) × Finds K N f)
+  keeps-or-finds few zero = inl (λ k h. absurd (omega arith))
+  keeps-or-finds few (suc n) = ⊎-elim
+      (λ G. ⊎-elim
+      (λ p. inl (λ k h. ⊎-elim (G k) (λ i. subst (λ j. (l : Lead D) → Holds N j l → Keeps K (N .nodes) l) (omega arith) p) (cases-lt k n)))
+      (λ b. inr (b .0, finds-first K N few n G (b .0) (b .1, b .2, b .3)))
+      (place-or-breaks n))
+      inr
+      (keeps-or-finds few n)
+
+  pub sound-or-finds : Sound K N ⊎ ((f : Fault) × Finds K N f)
+  sound-or-finds = ⊎-elim
+      (λ a. inr (Size, inl a))
+      (λ a. ⊎-elim
+      (λ b. inr (Size, inr b))
+      (λ b. ⊎-elim (λ G. inl (sound-if-all K N (a, b) G)) inr (keeps-or-finds (a, b) (N .places)))
+      (cases-lt 4096 (N .places)))
+      (cases-lt 4096 (N .nodes))
