@@ -8,7 +8,7 @@ ghost use Rattle.std.specs.declared.result.Result.the-variants.{Ok, Err};
 ghost use Rattle.delay.specs.Kind.{level as level-of};
 ghost use Rattle.wiring.specs.Lengths.{type-by, through-by};
 ghost use Rattle.lengths.specs.Check.{NotFilled};
-ghost use Rattle.lengths.specs.Tables.{entry};
+ghost use Rattle.lengths.specs.Tables.{entry, Untouched};
 ghost use Rattle.lengths.specs.Asked.{Filled, of-lead, TypeOf, ThroughOf, LongestOf};
 use crate::check::check;
 use crate::table::FillError;
@@ -35,10 +35,8 @@ pub fn classify<D: Delay, W: Wiring<D>>(
 ) -> Option<(bool, bool)>
     ensures marks { λ r. ⌜ r ≡ of-lead (type-by (D·Delay .kind) (entry (D·Delay .kind) (now (now (to .entry) .table))) (entry (D·Delay .kind) (now (now (from .entry) .table)))) (W·Wiring .net (now (w .entry)) .at place) ⌝ }
     ensures types { λ r. ⌜ (Filled (D·Delay .kind) (W·Wiring .net (now (w .entry))) (now (now (to .entry) .table)) (now (now (from .entry) .table)) → TypeOf (D·Delay .kind) (W·Wiring .net (now (w .entry))) place r) ⌝ }
-    ensures to_kept { λ _. ⌜ now (now (to .exit) .table) ≡ now (now (to .entry) .table) ⌝ }
-    ensures to_lender { λ _. ⌜ name (now (to .exit) .table) ≡ name (now (to .entry) .table) ⌝ }
-    ensures from_kept { λ _. ⌜ now (now (from .exit) .table) ≡ now (now (from .entry) .table) ⌝ }
-    ensures from_lender { λ _. ⌜ name (now (from .exit) .table) ≡ name (now (from .entry) .table) ⌝ }
+    ensures to_kept { λ _. ⌜ Untouched (now (to .entry)) (now (to .exit)) ⌝ }
+    ensures from_kept { λ _. ⌜ Untouched (now (from .entry)) (now (from .exit)) ⌝ }
 {
     let lead = w.lead(place)?;
     let drains = level(lead.delay.plus(from.at(lead.head)), from.at(lead.tail));
@@ -55,10 +53,8 @@ pub fn longest_through<D: Delay, W: Wiring<D>>(
 ) -> Option<D>
     ensures delay { λ r. ⌜ r ≡ of-lead (through-by (D·Delay .kind) (entry (D·Delay .kind) (now (now (to .entry) .table))) (entry (D·Delay .kind) (now (now (from .entry) .table)))) (W·Wiring .net (now (w .entry)) .at place) ⌝ }
     ensures longest { λ r. ⌜ (Filled (D·Delay .kind) (W·Wiring .net (now (w .entry))) (now (now (to .entry) .table)) (now (now (from .entry) .table)) → ThroughOf (D·Delay .kind) (W·Wiring .net (now (w .entry))) place r) ⌝ }
-    ensures to_kept { λ _. ⌜ now (now (to .exit) .table) ≡ now (now (to .entry) .table) ⌝ }
-    ensures to_lender { λ _. ⌜ name (now (to .exit) .table) ≡ name (now (to .entry) .table) ⌝ }
-    ensures from_kept { λ _. ⌜ now (now (from .exit) .table) ≡ now (now (from .entry) .table) ⌝ }
-    ensures from_lender { λ _. ⌜ name (now (from .exit) .table) ≡ name (now (from .entry) .table) ⌝ }
+    ensures to_kept { λ _. ⌜ Untouched (now (to .entry)) (now (to .exit)) ⌝ }
+    ensures from_kept { λ _. ⌜ Untouched (now (from .entry)) (now (from .exit)) ⌝ }
 {
     let lead = w.lead(place)?;
     let rest = lead.delay.plus(from.at(lead.head));
@@ -73,10 +69,8 @@ fn longest_of<D: Delay, W: Wiring<D>>(
 ) -> Option<D>
     requires { ⌜ Filled (D·Delay .kind) (W·Wiring .net (now w)) (now (now to .table)) (now (now from .table)) ⌝ }
     ensures longest { λ r. ⌜ LongestOf (D·Delay .kind) (W·Wiring .net (now (w .entry))) r ⌝ }
-    ensures to_kept { λ _. ⌜ now (now (to .exit) .table) ≡ now (now (to .entry) .table) ⌝ }
-    ensures to_lender { λ _. ⌜ name (now (to .exit) .table) ≡ name (now (to .entry) .table) ⌝ }
-    ensures from_kept { λ _. ⌜ now (now (from .exit) .table) ≡ now (now (from .entry) .table) ⌝ }
-    ensures from_lender { λ _. ⌜ name (now (from .exit) .table) ≡ name (now (from .entry) .table) ⌝ }
+    ensures to_kept { λ _. ⌜ Untouched (now (to .entry)) (now (to .exit)) ⌝ }
+    ensures from_kept { λ _. ⌜ Untouched (now (from .entry)) (now (from .exit)) ⌝ }
 {
     let mut best: Option<D> = None;
     for place in 0..w.places() {

@@ -7,7 +7,7 @@ ghost use Rattle.std.specs.declared.result.Result.the-variants.{Ok, Err};
 ghost use Rattle.lengths.specs.declared.table.FillError.the-variants.{Unsound};
 ghost use Rattle.wiring.specs.Net.{Sound};
 ghost use Rattle.lengths.specs.Check.{NotFilled, refusal-for};
-ghost use Rattle.lengths.specs.Tables.{entry, HoldsTo, HoldsFrom};
+ghost use Rattle.lengths.specs.Tables.{entry, HoldsTo, HoldsFrom, Untouched};
 ghost use Rattle.lengths.specs.Steps.{longer-of, LengthAt};
 use crate::check::Fault;
 use crate::check::check;
@@ -128,8 +128,7 @@ impl<'a, D: Delay> Lengths<'a, D> {
     /// The length at a node, zero past the end; the table stays as it was.
     pub fn at(&mut self, node: usize) -> D
         ensures read { λ r. ⌜ r ≡ entry (D·Delay .kind) (now (now (self .entry) .table)) node ⌝ }
-        ensures kept { λ _. ⌜ now (now (self .exit) .table) ≡ now (now (self .entry) .table) ⌝ }
-        ensures lender { λ _. ⌜ name (now (self .exit) .table) ≡ name (now (self .entry) .table) ⌝ }
+        ensures kept { λ _. ⌜ Untouched (now (self .entry)) (now (self .exit)) ⌝ }
     {
         entry_of(self.table, node)
     }

@@ -24,8 +24,6 @@ returns g c =
     record {
       marks = is;
       types = λ F. subst (TypeOf K N (c .args .place)) (sym is) (type-told K (g .D·Delay·met .laws) N to from F (c .args .place) (N .at (c .args .place)) refl);
-      to-kept = c .at-4 .ensures .kept ∙ c .at-3 .ensures .kept;
-      to-lender = c .at-4 .ensures .lender ∙ c .at-3 .ensures .lender;
-      from-kept = c .at-2 .ensures .kept ∙ c .at .ensures .kept;
-      from-lender = c .at-2 .ensures .lender ∙ c .at .ensures .lender;
+      to-kept = (c .at-4 .ensures .kept .0 ∙ c .at-3 .ensures .kept .0, c .at-4 .ensures .kept .1 ∙ c .at-3 .ensures .kept .1);
+      from-kept = (c .at-2 .ensures .kept .0 ∙ c .at .ensures .kept .0, c .at-2 .ensures .kept .1 ∙ c .at .ensures .kept .1);
     }

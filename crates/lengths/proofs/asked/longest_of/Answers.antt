@@ -41,8 +41,8 @@ loop-place-again g c =
         | in-rest w ↦
             subst Inv (sym (w .best-is)) (best-skip K L N Q value within p best (inv .0) (λ l h q. w .in-rest .not-Some (value l) (e ∙ ap (of-lead value) h)))
       ],
-      (c .longest-through .ensures .to-kept ∙ inv .1 .0, c .longest-through .ensures .to-lender ∙ inv .1 .1),
-      (c .longest-through .ensures .from-kept ∙ inv .2 .0, c .longest-through .ensures .from-lender ∙ inv .2 .1),
+      (c .longest-through .ensures .to-kept .0 ∙ inv .1 .0, c .longest-through .ensures .to-kept .1 ∙ inv .1 .1),
+      (c .longest-through .ensures .from-kept .0 ∙ inv .2 .0, c .longest-through .ensures .from-kept .1 ∙ inv .2 .1),
     )
 
 pub returns : need.returns
@@ -54,8 +54,6 @@ returns g c =
     record {
       longest = longest-told K L N to from (c .pre) (c .loop-place .best)
           (subst (λ p. BestBelow K N (λ l. Unit {0}) (through-by K (entry K to) (entry K from)) p (c .loop-place .best)) end (inv .0));
-      to-kept = inv .1 .0;
-      to-lender = inv .1 .1;
-      from-kept = inv .2 .0;
-      from-lender = inv .2 .1;
+      to-kept = inv .1;
+      from-kept = inv .2;
     }

@@ -21,7 +21,5 @@ returns g c =
       delay = is;
       longest = λ F. subst (ThroughOf K N (c .args .place)) (sym is) (through-told K (g .D·Delay·met .laws) N to from F (c .args .place) (N .at (c .args .place)) refl);
       to-kept = c .at-2 .ensures .kept;
-      to-lender = c .at-2 .ensures .lender;
       from-kept = c .at .ensures .kept;
-      from-lender = c .at .ensures .lender;
     }

@@ -10,10 +10,10 @@ returns g c =
     let at = sym (c .lead .ensures) ∙ c .in-Continue-lead .was tt in
     let told = c .in-Continue-drains .ensures tt .types (c .pre) in
     let again : Filled K N (now (c .classify .last .to .table)) (now (c .classify .last .from .table)) =
-    subst (λ xs. Filled K N xs (now (c .classify .last .from .table))) (sym (c .classify .ensures .to-kept))
-    (subst (λ xs. Filled K N (now (c .args .to .now .table)) xs) (sym (c .classify .ensures .from-kept)) (c .pre)) in
+    subst (λ xs. Filled K N xs (now (c .classify .last .from .table))) (sym (c .classify .ensures .to-kept .0))
+    (subst (λ xs. Filled K N (now (c .args .to .now .table)) xs) (sym (c .classify .ensures .from-kept .0)) (c .pre)) in
     record {
       row = record { holds = at; drains = told .1; fed = told .2; longest = c .in-Continue-longest .ensures tt .longest again };
-      to-kept = c .longest-through .ensures .to-kept ∙ c .classify .ensures .to-kept;
-      from-kept = c .longest-through .ensures .from-kept ∙ c .classify .ensures .from-kept;
+      to-kept = c .longest-through .ensures .to-kept .0 ∙ c .classify .ensures .to-kept .0;
+      from-kept = c .longest-through .ensures .from-kept .0 ∙ c .classify .ensures .from-kept .0;
     }
