@@ -27,14 +27,16 @@ pub record LeadOut {D : Type 0} (N : Net D) (v : ℕ) : Type 0 where
   pub holds : Holds N place lead
   pub begins : lead .tail ≡ v
 
-some-below-decides : (P : ℕ → Bool) (n : ℕ) → Decides (some-below n P) ((k : ℕ) × (k < n) × (P k ≡ true))
+-- some number below n passes a test
+pub some-below-decides : (P : ℕ → Bool) (n : ℕ) → Decides (some-below n P) ((k : ℕ) × (k < n) × (P k ≡ true))
 some-below-decides P n = decides-below-or P (λ k. P k ≡ true) (λ m. some-below m P) (λ k. (λ e. e, λ e. e)) refl (λ _. refl) n
 
-head-from : {D : Type 0} (v : ℕ) (o : Option (Lead D)) → head-is v o ≡ true → (l : Lead D) × (o ≡ Some l) × (l .head ≡ v)
+-- a lead whose head, or whose tail, is v
+pub head-from : {D : Type 0} (v : ℕ) (o : Option (Lead D)) → head-is v o ≡ true → (l : Lead D) × (o ≡ Some l) × (l .head ≡ v)
 head-from v (Some l) e = (l, refl, eqb-true (l .head) v e)
 head-from v None e = absurd (both-ways false refl e)
 
-tail-from : {D : Type 0} (v : ℕ) (o : Option (Lead D)) → tail-is v o ≡ true → (l : Lead D) × (o ≡ Some l) × (l .tail ≡ v)
+pub tail-from : {D : Type 0} (v : ℕ) (o : Option (Lead D)) → tail-is v o ≡ true → (l : Lead D) × (o ≡ Some l) × (l .tail ≡ v)
 tail-from v (Some l) e = (l, refl, eqb-true (l .tail) v e)
 tail-from v None e = absurd (both-ways false refl e)
 

@@ -54,10 +54,14 @@ leaves N v k = tail-is v (N .at k)
 abbrev pub enters : {D : Type 0} → Net D → ℕ → ℕ → Bool
 enters N v k = head-is v (N .at k)
 
--- P holds of some number below n
+-- P holds of some number below n; of every number below n
 abbrev pub some-below : ℕ → (ℕ → Bool) → Bool
 some-below zero P = false
 some-below (suc n) P = P n || some-below n P
+
+abbrev pub all-below : ℕ → (ℕ → Bool) → Bool
+all-below zero P = true
+all-below (suc n) P = P n && all-below n P
 
 -- the node v has a lead in; it has a lead out
 abbrev pub hasIn : {D : Type 0} → Net D → ℕ → Bool

@@ -1,0 +1,5 @@
+pub mod Arcs
+pub mod Count
+pub mod Listed
+pub mod Witness
+pub mod Whole

@@ -1,0 +1,12 @@
+pub mod Sums
+pub mod Cuts
+pub mod Best
+pub mod Ways
+pub mod Shifts
+pub mod Search
+pub mod Chains
+pub mod Trails
+pub mod Exist
+pub mod Tests
+pub mod Seek
+pub mod Cells
