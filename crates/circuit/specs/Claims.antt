@@ -1,0 +1,63 @@
+-- What holds of every sheet, whatever calls made it.
+use mathlib.Core.Path.{_≡_}
+use mathlib.Core.Logic.{_⊎_}
+use mathlib.Core.List.{List}
+use Prim.Native.Nat.{ℕ, _<_, _≤_}
+use lib.ListN.{length}
+use Rattle.std.specs.shelf.Lists.{All}
+use Rattle.std.specs.declared.option.Option.the-variants.{Some, None}
+use Rattle.delay.specs.Kind.{Kind}
+use Rattle.wiring.specs.Net.{Sound}
+use Rattle.wiring.specs.declared.refusals.Refusal.{Refusal}
+use Rattle.circuit.specs.Sheet.{PlainSheet, empty, held, Tables, Limits, written}
+use Rattle.circuit.specs.Calls.{Edit, edited, Call, load, at-place, step, accepted}
+use Rattle.circuit.specs.Histories.{History}
+use Rattle.circuit.specs.Spread.{circuit, sign-at, spread, OneToOne}
+use Rattle.circuit.specs.Examples.{Sample-stands, Answered, accepted-examples, refused-examples, load-order, open-order, lay-order, retime-order, lift-order}
+
+-- every history of calls keeps the limits of a sheet
+abbrev pub Histories-keep-limits : Type 0
+Histories-keep-limits = (z : Tables) (s : PlainSheet) → History z s → Limits z s
+
+-- a refused call leaves the sheet as it was; a refused load may leave it empty instead
+abbrev pub Refused-calls-leave : Type 0
+Refused-calls-leave = (z : Tables) (s : PlainSheet) (c : Call) (r : Refusal) → step z s c .refusal ≡ Some r →
+    (step z s c .sheet ≡ s) ⊎ ((step z s c .sheet ≡ empty) × ((bs : List ℕ) × (c ≡ load bs)))
+
+-- t is s but for place k, which was edited
+pub record OnePlaceEdited (s : PlainSheet) (k : ℕ) (e : Edit) (t : PlainSheet) : Type 0 where
+  pub inside : k < length (s .leads)
+  pub signs : t .signs ≡ s .signs
+  pub count : length (t .leads) ≡ length (s .leads)
+  pub here : held t k ≡ edited e (held s k)
+  pub elsewhere : (j : ℕ) → (j ≡ k → ⊥) → held t j ≡ held s j
+
+-- an accepted lay, retime or lift changes its place and nothing else
+abbrev pub Edits-change-one-place : Type 0
+Edits-change-one-place = (z : Tables) (s : PlainSheet) (k : ℕ) (e : Edit) → step z s (at-place k e) .refusal ≡ None →
+    OnePlaceEdited s k e (step z s (at-place k e) .sheet)
+
+-- a sheet written to a file loads again, over whatever was held before and into any tables with room for it
+abbrev pub Written-sheets-load : Type 0
+Written-sheets-load = (z y : Tables) (s t : PlainSheet) → History z s → length (s .signs) ≤ y .nodes → length (s .leads) ≤ y .places →
+    step y t (load (written s)) ≡ accepted s
+
+module _ {D : Type 0} (K : Kind D) where
+  -- the spread of every sheet is a sound wiring, so that no refusal 3, 5 or 6 is left for it
+  abbrev pub Spreads-are-sound : Type 0
+  Spreads-are-sound = (z : Tables) (s : PlainSheet) → History z s → Sound K (spread K s)
+
+  -- the paths of every spread are the pairs of a circuit path and a launched edge
+  abbrev pub Paths-are-pairs : Type 0
+  Paths-are-pairs = (s : PlainSheet) → OneToOne (sign-at s) K (circuit s)
+
+-- the examples are answered as they say: what is accepted, what breaks one rule, and in which order each call judges its rules
+pub record Examples-stand : Type 0 where
+  pub sample : Sample-stands
+  pub accepted-ones : All Answered accepted-examples
+  pub refused-ones : All Answered refused-examples
+  pub load-judges : All Answered load-order
+  pub open-judges : All Answered open-order
+  pub lay-judges : All Answered lay-order
+  pub retime-judges : All Answered retime-order
+  pub lift-judges : All Answered lift-order
