@@ -11,7 +11,8 @@ use Rattle.circuit.specs.Calls.{Rule, Outcome, refused, judge}
 abbrev pub AllKept : List Rule → Type 0
 AllKept rs = All (λ (r : Rule). r .kept ≡ true) rs
 
-one-rule : (Q : Outcome → Type 0) (b : Bool) (o p : Outcome) → (b ≡ true → Q o) → Q p → Q (cond b o p)
+-- one rule: kept, or broken
+pub one-rule : (Q : Outcome → Type 0) (b : Bool) (o p : Outcome) → (b ≡ true → Q o) → Q p → Q (cond b o p)
 one-rule Q true o p f h = f refl
 one-rule Q false o p f h = h
 

@@ -17,7 +17,7 @@ use Rattle.std.specs.declared.option.Option.the-variants.{Some, None}
 use Rattle.wiring.specs.declared.Lead.{Lead}
 use Rattle.wiring.proofs.Ends.{below-places}
 use Rattle.circuit.specs.declared.Times.{Times}
-use Rattle.circuit.specs.File.{header-in, signs-in, record-start, LeadRecord, first-records, records-in}
+use Rattle.circuit.specs.File.{Byte, header-in, signs-in, record-start, LeadRecord, first-records, records-in}
 use Rattle.circuit.specs.Sheet.{PlainSheet, empty, held, Tables, most-nodes, most-places, most-picoseconds, LeadLimits, PlaceLimits, Limits}
 use Rattle.circuit.specs.Calls.{Edit, lay, retime, lift, Call, open-with, load, at-place, choose, Outcome, accepted, all-signs, in-size, in-room, in-time}
 use Rattle.circuit.specs.Calls.{open-rules, load-rules, edit-rules, fresh, retimed, edited, edit-at, laid, step}
@@ -52,7 +52,7 @@ fresh-limits z signs n m few size room e =
       leads = vacant-places (length signs) m;
     }
 
-retimed-limits : (n : ℕ) (t : Times) (p : Option (Lead Times)) → PlaceLimits n p → in-time t ≡ true → t .contacts ≤ 255 → PlaceLimits n (retimed t p)
+retimed-limits : (n : ℕ) (t : Times) (p : Option (Lead Times)) → PlaceLimits n p → in-time t ≡ true → Byte (t .contacts) → PlaceLimits n (retimed t p)
 retimed-limits n t (Some l) h e c =
     let u = both-at-most (t .rise) (t .fall) most-picoseconds most-picoseconds e in
     record { upwards = h .upwards; inside = h .inside; rise = u .0; fall = u .1; contacts = c }
@@ -87,9 +87,8 @@ edit-limits z s k e h c kept =
 empty-limits : (z : Tables) → Limits z empty
 empty-limits z = record { few-nodes = omega arith; few-places = omega arith; node-room = omega arith; place-room = omega arith; signs = tt; leads = tt }
 
--- contacts that fit a byte
 abbrev ByteContacts : LeadRecord → Type 0
-ByteContacts r = r .lead .delay .contacts ≤ 255
+ByteContacts r = Byte (r .lead .delay .contacts)
 
 abbrev SheetLimits : Tables → Outcome → Type 0
 SheetLimits z o = Limits z (o .sheet)
@@ -101,16 +100,16 @@ laid-limits z s (r ∷ rs) h c =
     judge-either (SheetLimits z) (edit-rules s (r .place) e) empty (laid (edit-at s (r .place) e) rs) (λ _. empty-limits z)
     (λ kept. laid-limits z (edit-at s (r .place) e) rs (edit-limits z s (r .place) e h (c .0) kept) (c .1))
 
-one-byte : (bs : List ℕ) → All (λ b. b ≤ 255) bs → number 256 (take 1 bs) ≤ 255
+one-byte : (bs : List ℕ) → All Byte bs → Byte (number 256 (take 1 bs))
 one-byte [] h = omega arith
 one-byte (b ∷ bs) h = omega arith
 
-byte-contacts : (n : ℕ) (bs : List ℕ) → All (λ b. b ≤ 255) bs → All ByteContacts (first-records n bs)
+byte-contacts : (n : ℕ) (bs : List ℕ) → All Byte bs → All ByteContacts (first-records n bs)
 byte-contacts zero bs h = tt
 byte-contacts (suc n) bs h =
-    (one-byte (drop 14 bs) (all-drop (λ b. b ≤ 255) 14 bs h), byte-contacts n (drop 15 bs) (all-drop (λ b. b ≤ 255) 15 bs h))
+    (one-byte (drop 14 bs) (all-drop Byte 14 bs h), byte-contacts n (drop 15 bs) (all-drop Byte 15 bs h))
 
-loaded-limits : (z : Tables) (bs : List ℕ) → All (λ b. b ≤ 255) bs → AllKept (load-rules z bs) →
+loaded-limits : (z : Tables) (bs : List ℕ) → All Byte bs → AllKept (load-rules z bs) →
     SheetLimits z (laid (fresh (signs-in bs) (header-in bs .places)) (records-in bs))
 loaded-limits z bs b kept =
     let h = header-in bs in let behind = record-start (h .nodes) 0 in
@@ -118,7 +117,7 @@ loaded-limits z bs b kept =
     let rules = kept .1 .1 .1 in
     laid-limits z (fresh (signs-in bs) (h .places)) (records-in bs)
     (fresh-limits z (signs-in bs) (h .nodes) (h .places) few (rules .0) (rules .1 .0) (rules .1 .1 .1 .0))
-    (byte-contacts (h .leads) (drop behind bs) (all-drop (λ b. b ≤ 255) behind bs b))
+    (byte-contacts (h .leads) (drop behind bs) (all-drop Byte behind bs b))
 
 step-limits : (z : Tables) (s : PlainSheet) (c : Call) → Limits z s → Handed c → SheetLimits z (step z s c)
 step-limits z s (open-with signs m) h c =

@@ -8,18 +8,19 @@ use lib.Dec.{ltb, leb}
 use lib.ListN.{length, replicate, take, drop}
 use Rattle.std.specs.shelf.Lists.{All, joined}
 use Rattle.std.proofs.shelf.Lists.{append-assoc, length-append, getD-at, set-at, take-at, drop-at, drop-drop}
+use Rattle.std.proofs.shelf.Elements.{all-weaker}
 use Rattle.std.proofs.shelf.Tests.{and-from, lt-ltb, le-leb, eq-eqb}
 use Rattle.std.specs.declared.option.Option.{Option}
 use Rattle.std.specs.declared.option.Option.the-variants.{Some, None}
 use Rattle.wiring.specs.declared.Lead.{Lead}
 use Rattle.wiring.specs.Net.{stands}
 use Rattle.circuit.specs.declared.Times.{Times}
-use Rattle.circuit.specs.File.{Header, header-in, record-start, signs-in, record-bytes, first-records, LeadRecord, records-in, header-for}
+use Rattle.circuit.specs.File.{Byte, Header, header-in, record-start, signs-in, record-bytes, first-records, LeadRecord, records-in, header-for}
 use Rattle.circuit.specs.Sheet.{PlainSheet, empty, held, records-from, written}
 use Rattle.circuit.specs.Sheet.{Tables, most-nodes, most-places, most-picoseconds, LeadLimits, PlaceLimits, Limits}
 use Rattle.circuit.specs.Calls.{lay, load, accepted, all-signs, file-rules, load-rules, edit-rules, fresh, edit-at, laid, step}
 use Rattle.circuit.proofs.Judging.{AllKept, judge-kept}
-use Rattle.circuit.proofs.FileForm.{RecordFits, records-back, header-back, file-length}
+use Rattle.circuit.proofs.FileForm.{RecordFits, records-back, header-back, file-length, file-is-bytes}
 
 both-at-most : (a b m n : ℕ) → a ≤ m → b ≤ n → (leb a m && leb b n) ≡ true
 both-at-most a b m n h k = and-from (leb a m) (leb b n) (le-leb a m h) (le-leb b n k)
@@ -139,6 +140,9 @@ module _ {z : Tables} {s : PlainSheet} (h : Limits z s) where
         ),
       ) in
       subst AllKept (sym (ap₂ (file-rules y size) header-is signs-are)) kept
+
+  pub written-is-bytes : All Byte (written s)
+  written-is-bytes = file-is-bytes (s .signs) (length (s .leads)) rs (all-weaker (λ x. x ≤ 1) Byte (λ x i. omega arith) (s .signs) (h .signs))
 
   -- whatever was held before, and into any tables with room
   pub reloads : (y : Tables) (t : PlainSheet) → n ≤ y .nodes → length (s .leads) ≤ y .places → step y t (load (written s)) ≡ accepted s

@@ -11,7 +11,7 @@ use Rattle.std.specs.declared.result.Result.the-variants.{Ok, Err}
 use Rattle.wiring.specs.declared.Lead.{Lead}
 use Rattle.wiring.specs.declared.refusals.Refusal.{Refusal}
 use Rattle.wiring.specs.declared.refusals.Refusal.the-variants.{FileLength, Version, Size, Sign, Ends, Delay, Taken, Vacant, Place, Room}
-use Rattle.wiring.specs.Net.{stands}
+use Rattle.wiring.specs.Net.{stands, ends-in-order}
 use Rattle.circuit.specs.declared.Times.{Times}
 use Rattle.circuit.specs.File.{Header, header-in, signs-in, record-start, LeadRecord, records-in}
 use Rattle.circuit.specs.Sheet.{PlainSheet, empty, held, standing, Tables, most-nodes, most-places, most-picoseconds}
@@ -73,10 +73,6 @@ in-size nodes places = leb nodes most-nodes && leb places most-places
 abbrev pub in-room : Tables → ℕ → ℕ → Bool
 in-room z nodes places = leb nodes (z .nodes) && leb places (z .places)
 
--- tail below head, and head below the count n of nodes
-abbrev pub in-order : ℕ → Lead Times → Bool
-in-order n l = ltb (l .tail) (l .head) && ltb (l .head) n
-
 -- neither rise nor fall is over the limit
 abbrev pub in-time : Times → Bool
 in-time t = leb (t .rise) most-picoseconds && leb (t .fall) most-picoseconds
@@ -107,7 +103,7 @@ abbrev pub edit-rules : PlainSheet → ℕ → Edit → List Rule
 edit-rules s k (lay l) =
     rule (ltb k (length (s .leads))) Place
     ∷ rule (not (stands (held s k))) Taken
-    ∷ rule (in-order (length (s .signs)) l) Ends
+    ∷ rule (ends-in-order (length (s .signs)) l) Ends
     ∷ rule (in-time (l .delay)) Delay
     ∷ []
 edit-rules s k (retime t) =

@@ -1,12 +1,15 @@
 -- The sheet file, byte by byte. Every field is a number in bytes, the highest byte first. A header of 11 bytes comes first,
 -- then one sign byte for each node, then the lead records, 15 bytes each.
 use mathlib.Core.List.{List, [], _∷_, _++_}
-use Prim.Native.Nat.{ℕ, zero, suc, _+_, _*_, _/_, _%_}
+use Prim.Native.Nat.{ℕ, zero, suc, _+_, _*_, _/_, _%_, _≤_}
 use lib.ListN.{length, take, drop}
 use Rattle.std.specs.shelf.Lists.{joined}
 use Rattle.std.specs.shelf.Digits.{number}
 use Rattle.wiring.specs.declared.Lead.{Lead}
 use Rattle.circuit.specs.declared.Times.{Times}
+
+abbrev pub Byte : ℕ → Type 0
+Byte b = b ≤ 255
 
 -- the number in a field: so many bytes wide, from the byte `start` on
 abbrev pub field : ℕ → ℕ → List ℕ → ℕ

@@ -1,8 +1,8 @@
 -- Histories: the sheets that calls make of an empty one.
 use mathlib.Core.Path.{_≡_}
 use mathlib.Core.List.{List, [], _∷_}
-use Prim.Native.Nat.{_≤_}
 use Rattle.std.specs.shelf.Lists.{All}
+use Rattle.circuit.specs.File.{Byte}
 use Rattle.circuit.specs.Sheet.{PlainSheet, empty, Tables}
 use Rattle.circuit.specs.Calls.{Edit, lay, retime, lift, Call, open-with, load, at-place, choose, step}
 
@@ -15,15 +15,15 @@ further z s (c ∷ cs) = further z (step z s c .sheet) cs
 abbrev pub after : Tables → List Call → PlainSheet
 after z cs = further z empty cs
 
--- what a caller can hand over: contacts that fit a byte, and a file of bytes
+-- what a caller can hand over: contacts that are a byte, and a file of bytes
 abbrev pub HandedEdit : Edit → Type 0
-HandedEdit (lay l) = l .delay .contacts ≤ 255
-HandedEdit (retime t) = t .contacts ≤ 255
+HandedEdit (lay l) = Byte (l .delay .contacts)
+HandedEdit (retime t) = Byte (t .contacts)
 HandedEdit lift = Unit {0}
 
 abbrev pub Handed : Call → Type 0
 Handed (open-with signs places) = Unit {0}
-Handed (load bs) = All (λ b. b ≤ 255) bs
+Handed (load bs) = All Byte bs
 Handed (at-place k e) = HandedEdit e
 Handed choose = Unit {0}
 

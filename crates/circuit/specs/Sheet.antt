@@ -8,7 +8,7 @@ use Rattle.std.specs.declared.option.Option.the-variants.{Some, None}
 use Rattle.wiring.specs.declared.Lead.{Lead}
 use Rattle.wiring.specs.Net.{stands}
 use Rattle.circuit.specs.declared.Times.{Times}
-use Rattle.circuit.specs.File.{LeadRecord, file-bytes}
+use Rattle.circuit.specs.File.{Byte, LeadRecord, file-bytes}
 
 -- a sign for each node, 0 where the node passes an edge on and 1 where it inverts it; and at each place nothing or a lead
 pub record PlainSheet : Type 0 where
@@ -49,7 +49,7 @@ pub record LeadLimits (n : ℕ) (l : Lead Times) : Type 0 where
   pub inside : l .head < n
   pub rise : l .delay .rise ≤ most-picoseconds
   pub fall : l .delay .fall ≤ most-picoseconds
-  pub contacts : l .delay .contacts ≤ 255
+  pub contacts : Byte (l .delay .contacts)
 
 -- a vacant place breaks no limit
 abbrev pub PlaceLimits : ℕ → Option (Lead Times) → Type 0
