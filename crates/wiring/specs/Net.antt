@@ -2,7 +2,7 @@
 use mathlib.Core.Path.{_≡_}
 use mathlib.Core.Bool.{Bool, true, false, _&&_, _||_, not}
 use Prim.Native.Nat.{ℕ, zero, suc, _≤_, _<_}
-use lib.Dec.{eqb}
+use lib.Dec.{eqb, ltb}
 use Rattle.std.specs.declared.option.Option.{Option}
 use Rattle.std.specs.declared.option.Option.the-variants.{Some, None}
 use Rattle.delay.specs.Kind.{Kind}
@@ -23,6 +23,10 @@ Holds N k l = N .at k ≡ Some l
 pub record InOrder {D : Type 0} (N : Net D) : Type 0 where
   pub upwards : (k : ℕ) (l : Lead D) → Holds N k l → l .tail < l .head
   pub inside : (k : ℕ) (l : Lead D) → Holds N k l → l .head < N .nodes
+
+-- the test for one lead in a wiring of n nodes
+abbrev pub ends-in-order : {D : Type 0} → ℕ → Lead D → Bool
+ends-in-order n l = ltb (l .tail) (l .head) && ltb (l .head) n
 
 -- what can be worked on: at most 4,096 nodes and places, leads in order, and each with a delay that is lawful for the kind
 pub record Sound {D : Type 0} (K : Kind D) (N : Net D) : Type 0 where

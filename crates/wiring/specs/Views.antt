@@ -1,16 +1,15 @@
 -- What the table of lead records and the turned view mean, and what the view says of the wiring under it.
 use mathlib.Core.Path.{_≡_, ap}
 use mathlib.Core.List.{List, reverse}
-use mathlib.Core.Bool.{cond, _&&_}
+use mathlib.Core.Bool.{cond}
 use Prim.Native.Nat.{ℕ, _-_, _<_}
-use lib.Dec.{ltb}
 use lib.ListN.{length, getD}
 use Rattle.std.proofs.shelf.Lists.{getD-past}
 use Rattle.std.specs.declared.option.Option.{Option}
 use Rattle.std.specs.declared.option.Option.the-variants.{Some, None}
 use Rattle.delay.specs.Kind.{Kind, Laws}
 use Rattle.wiring.specs.declared.Lead.{Lead}
-use Rattle.wiring.specs.Net.{Net, InOrder, Sound, isInput, isOutput}
+use Rattle.wiring.specs.Net.{Net, InOrder, ends-in-order, Sound, isInput, isOutput}
 use Rattle.wiring.specs.Paths.{Run, delayOf}
 use Rattle.wiring.specs.Lengths.{To, From}
 
@@ -28,7 +27,7 @@ flip n l = record { tail = mirror n (l .head); head = mirror n (l .tail); delay 
 
 -- as the turned view shows it: with both ends 0 where it is not in order
 abbrev pub turn : {D : Type 0} → ℕ → Lead D → Lead D
-turn n l = cond (ltb (l .tail) (l .head) && ltb (l .head) n) (flip n l) (record { tail = 0; head = 0; delay = l .delay })
+turn n l = cond (ends-in-order n l) (flip n l) (record { tail = 0; head = 0; delay = l .delay })
 
 abbrev pub turn-place : {D : Type 0} → ℕ → Option (Lead D) → Option (Lead D)
 turn-place n (Some l) = Some (turn n l)

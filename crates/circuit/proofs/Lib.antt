@@ -1,0 +1,10 @@
+pub mod Judging
+pub mod Calls
+pub mod Limits
+pub mod FileForm
+pub mod Reload
+pub mod Copies
+pub mod Spreads
+pub mod Pairs
+pub mod Claims
+pub mod Examples
