@@ -14,7 +14,8 @@ use Rattle.circuit.specs.Sheet.{PlainSheet, empty, held, Tables, Limits, writt
 use Rattle.circuit.specs.Calls.{Edit, edited, Call, open-with, load, at-place, choose, step, accepted}
 use Rattle.circuit.specs.Histories.{Handed, History}
 use Rattle.circuit.specs.Spread.{circuit, sign-at, spread, OneToOne}
-use Rattle.circuit.specs.Examples.{Sample-stands, Answered, accepted-examples, refused-examples, load-order, open-order, lay-order, retime-order, lift-order}
+use Rattle.circuit.specs.Examples.{Sample-stands, Answered, accepted-examples, refused-openings, refused-edits}
+use Rattle.circuit.specs.Examples.{load-order, open-order, lay-order, retime-order, lift-order}
 
 -- every history of calls keeps the limits of a sheet
 abbrev pub Histories-keep-limits : Type 0
@@ -62,13 +63,17 @@ module _ {D : Type 0} (K : Kind D) where
   abbrev pub Paths-are-pairs : Type 0
   Paths-are-pairs = (s : PlainSheet) → OneToOne (sign-at s) K (circuit s)
 
--- the examples are answered as they say: what is accepted, what breaks one rule, and in which order each call judges its rules
+-- the sample stands, what is just within the limits is accepted, and what breaks one rule is refused by that rule
 pub record Examples-stand : Type 0 where
   pub sample : Sample-stands
-  pub accepted-ones : All Answered accepted-examples
-  pub refused-ones : All Answered refused-examples
-  pub load-judges : All Answered load-order
-  pub open-judges : All Answered open-order
-  pub lay-judges : All Answered lay-order
-  pub retime-judges : All Answered retime-order
-  pub lift-judges : All Answered lift-order
+  pub accepts : All Answered accepted-examples
+  pub refuses-openings : All Answered refused-openings
+  pub refuses-edits : All Answered refused-edits
+
+-- of two rules broken at once, each call tells the one that its order has first
+pub record Calls-judge-in-order : Type 0 where
+  pub load-in-order : All Answered load-order
+  pub open-in-order : All Answered open-order
+  pub lay-in-order : All Answered lay-order
+  pub retime-in-order : All Answered retime-order
+  pub lift-in-order : All Answered lift-order

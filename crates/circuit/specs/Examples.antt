@@ -45,8 +45,8 @@ sample-file =
     ∷ 0 ∷ 1 ∷ 0 ∷ 1 ∷ 0 ∷ 2 ∷ 0 ∷ 0 ∷ 0 ∷ 3 ∷ 0 ∷ 0 ∷ 0 ∷ 5 ∷ 0
     ∷ []
 
-abbrev spread-lead-of : ℕ → ℕ → ℕ → Option (Lead Picoseconds)
-spread-lead-of t h d = Some (record { tail = t; head = h; delay = picoseconds-of d })
+abbrev picosecond-lead : ℕ → ℕ → ℕ → Option (Lead Picoseconds)
+picosecond-lead t h d = Some (record { tail = t; head = h; delay = picoseconds-of d })
 
 -- the file loads as the sheet, and the sheet is written as the file. In its spread an edge runs unchanged from node 0 to node 1, and is
 -- inverted behind node 1: a rising edge costs 1 and then the fall of 5, a falling one 2 and then the rise of 3
@@ -55,7 +55,7 @@ pub record Sample-stands : Type 0 where
   pub writes : written sample-sheet ≡ sample-file
   pub nodes : spread picosecond-kind sample-sheet .nodes ≡ 6
   pub leads : map (spread picosecond-kind sample-sheet .at) (0 ∷ 1 ∷ 2 ∷ 3 ∷ 4 ∷ [])
-      ≡ spread-lead-of 0 2 1 ∷ spread-lead-of 1 3 2 ∷ spread-lead-of 2 5 5 ∷ spread-lead-of 3 4 3 ∷ None ∷ []
+      ≡ picosecond-lead 0 2 1 ∷ picosecond-lead 1 3 2 ∷ picosecond-lead 2 5 5 ∷ picosecond-lead 3 4 3 ∷ None ∷ []
   pub rising-edge : pair-delay (sign-at sample-sheet) picosecond-kind (circuit sample-sheet) rising (0 ∷ 1 ∷ []) ≡ picoseconds-of 6
   pub falling-edge : pair-delay (sign-at sample-sheet) picosecond-kind (circuit sample-sheet) falling (0 ∷ 1 ∷ []) ≡ picoseconds-of 5
 
@@ -85,8 +85,8 @@ abbrev header : ℕ → ℕ → ℕ → ℕ → ℕ → List ℕ
 header v s n p l = header-bytes (record { version = v; size = s; nodes = n; places = p; leads = l })
 
 -- a lead record: place and lead
-abbrev at-record : ℕ → Lead Times → List ℕ
-at-record k l = record-bytes (record { place = k; lead = l })
+abbrev lead-record : ℕ → Lead Times → List ℕ
+lead-record k l = record-bytes (record { place = k; lead = l })
 
 -- three nodes and four places; then a lead at place 0
 abbrev opening : Call
@@ -114,9 +114,9 @@ accepted-examples =
     ∷ accepts (opening ∷ first-lead ∷ []) opening 0
     ∷ []
 
--- every way to break one rule alone, by the number of the refusal
-abbrev pub refused-examples : List Example
-refused-examples =
+-- every way to break one rule of open or of load alone
+abbrev pub refused-openings : List Example
+refused-openings =
     -- 1: no bytes
     refuses [] (load []) FileLength
     -- 1: 11 bytes, of which the length field says 12 and the counts say 12 too
@@ -131,8 +131,16 @@ refused-examples =
     -- 4: sign 3, opened and in a file
     ∷ refuses [] (open-with (3 ∷ []) 1) Sign
     ∷ refuses [] (load (header 1 12 1 0 0 ++ (3 ∷ []))) Sign
+    -- 10: two nodes, or two places, in tables of one entry
+    ∷ refuses-in (tables 1 1) (open-with (0 ∷ 0 ∷ []) 1) Room
+    ∷ refuses-in (tables 1 1) (open-with (0 ∷ []) 2) Room
+    ∷ []
+
+-- every way to break one rule of lay, retime or lift alone
+abbrev pub refused-edits : List Example
+refused-edits =
     -- 5: tail 2 and head 2; head 3 of three nodes
-    ∷ refuses (opening ∷ []) (at-place 0 (lay (lead 2 2 0 0))) Ends
+    refuses (opening ∷ []) (at-place 0 (lay (lead 2 2 0 0))) Ends
     ∷ refuses (opening ∷ []) (at-place 0 (lay (lead 2 3 0 0))) Ends
     -- 6: rise or fall 1,000,001, laid or retimed
     ∷ refuses (opening ∷ []) (at-place 0 (lay (lead 0 1 1000001 0))) Delay
@@ -146,9 +154,6 @@ refused-examples =
     ∷ refuses (opening ∷ []) (at-place 3 lift) Vacant
     -- 9: place 4 of four
     ∷ refuses (opening ∷ []) (at-place 4 (lay (lead 0 1 5 5))) Place
-    -- 10: two nodes, or two places, in tables of one entry
-    ∷ refuses-in (tables 1 1) (open-with (0 ∷ 0 ∷ []) 1) Room
-    ∷ refuses-in (tables 1 1) (open-with (0 ∷ []) 2) Room
     ∷ []
 
 -- load judges 1 (under 11 bytes), 2, 1 (byte count), 3, 10, 1 (counts), 4, and then each lead record in turn as lay judges it
@@ -170,17 +175,17 @@ load-order =
     -- 1 before 4: 12 bytes where the counts say 27, and sign 3
     ∷ refuses [] (load (header 1 12 1 0 1 ++ (3 ∷ []))) FileLength
     -- 4 before the records: sign 3, and a record for place 0 of none
-    ∷ refuses [] (load (header 1 27 1 0 1 ++ (3 ∷ at-record 0 (lead 0 0 0 0)))) Sign
+    ∷ refuses [] (load (header 1 27 1 0 1 ++ (3 ∷ lead-record 0 (lead 0 0 0 0)))) Sign
     -- in a record 9 before 5, and before 6: place 1 of one, and a lead from 1 to 1 or with rise 1,000,001
-    ∷ refuses [] (load (header 1 28 2 1 1 ++ (0 ∷ 0 ∷ at-record 1 (lead 1 1 0 0)))) Place
-    ∷ refuses [] (load (header 1 28 2 1 1 ++ (0 ∷ 0 ∷ at-record 1 (lead 0 1 1000001 0)))) Place
+    ∷ refuses [] (load (header 1 28 2 1 1 ++ (0 ∷ 0 ∷ lead-record 1 (lead 1 1 0 0)))) Place
+    ∷ refuses [] (load (header 1 28 2 1 1 ++ (0 ∷ 0 ∷ lead-record 1 (lead 0 1 1000001 0)))) Place
     -- 7 before 5, and before 6: place 0 twice, the second time with a lead from 1 to 1 or with rise 1,000,001
-    ∷ refuses [] (load (header 1 43 2 1 2 ++ (0 ∷ 0 ∷ at-record 0 (lead 0 1 0 0) ++ at-record 0 (lead 1 1 0 0)))) Taken
-    ∷ refuses [] (load (header 1 43 2 1 2 ++ (0 ∷ 0 ∷ at-record 0 (lead 0 1 0 0) ++ at-record 0 (lead 0 1 1000001 0)))) Taken
+    ∷ refuses [] (load (header 1 43 2 1 2 ++ (0 ∷ 0 ∷ lead-record 0 (lead 0 1 0 0) ++ lead-record 0 (lead 1 1 0 0)))) Taken
+    ∷ refuses [] (load (header 1 43 2 1 2 ++ (0 ∷ 0 ∷ lead-record 0 (lead 0 1 0 0) ++ lead-record 0 (lead 0 1 1000001 0)))) Taken
     -- 5 before 6: a lead from 1 to 1 with rise 1,000,001
-    ∷ refuses [] (load (header 1 28 2 1 1 ++ (0 ∷ 0 ∷ at-record 0 (lead 1 1 1000001 0)))) Ends
+    ∷ refuses [] (load (header 1 28 2 1 1 ++ (0 ∷ 0 ∷ lead-record 0 (lead 1 1 1000001 0)))) Ends
     -- the first record before the second: rise 1,000,001, then place 1 of one
-    ∷ refuses [] (load (header 1 43 2 1 2 ++ (0 ∷ 0 ∷ at-record 0 (lead 0 1 1000001 0) ++ at-record 1 (lead 0 1 0 0)))) Delay
+    ∷ refuses [] (load (header 1 43 2 1 2 ++ (0 ∷ 0 ∷ lead-record 0 (lead 0 1 1000001 0) ++ lead-record 1 (lead 0 1 0 0)))) Delay
     ∷ []
 
 -- open judges 3, 10, 4
