@@ -77,6 +77,7 @@ in-room z nodes places = leb nodes (z .nodes) && leb places (z .places)
 abbrev pub in-time : Times → Bool
 in-time t = leb (t .rise) most-picoseconds && leb (t .fall) most-picoseconds
 
+-- what open judges, in this order
 abbrev pub open-rules : Tables → List ℕ → ℕ → List Rule
 open-rules z signs places =
     rule (in-size (length signs) places) Size
@@ -84,7 +85,7 @@ open-rules z signs places =
     ∷ rule (all-signs signs) Sign
     ∷ []
 
--- the rules for a file of `size` bytes with this header and these signs; its lead records are judged after them, as lay judges
+-- what load judges, in this order, of a file of `size` bytes with this header and these signs; after it come the lead records, as lay judges them
 abbrev pub file-rules : Tables → ℕ → Header → List ℕ → List Rule
 file-rules z size h signs =
     rule (leb 11 size) FileLength
@@ -99,6 +100,7 @@ file-rules z size h signs =
 abbrev pub load-rules : Tables → List ℕ → List Rule
 load-rules z bs = file-rules z (length bs) (header-in bs) (signs-in bs)
 
+-- what lay, retime and lift judge at place k, in this order
 abbrev pub edit-rules : PlainSheet → ℕ → Edit → List Rule
 edit-rules s k (lay l) =
     rule (ltb k (length (s .leads))) Place
@@ -120,6 +122,7 @@ edit-rules s k lift =
 abbrev pub fresh : List ℕ → ℕ → PlainSheet
 fresh signs places = record { signs = signs; leads = replicate places None }
 
+-- a lead with other times, and the same ends
 abbrev pub retimed : Times → Option (Lead Times) → Option (Lead Times)
 retimed t (Some l) = Some (record { tail = l .tail; head = l .head; delay = t })
 retimed t None = None

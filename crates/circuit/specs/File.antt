@@ -8,6 +8,7 @@ use Rattle.std.specs.shelf.Digits.{number}
 use Rattle.wiring.specs.declared.Lead.{Lead}
 use Rattle.circuit.specs.declared.Times.{Times}
 
+-- a number that is a byte
 abbrev pub Byte : ℕ → Type 0
 Byte b = b ≤ 255
 
@@ -28,6 +29,7 @@ pub record Header : Type 0 where
   pub places : ℕ
   pub leads : ℕ
 
+-- the header that bytes begin with, and the bytes of a header
 abbrev pub header-in : List ℕ → Header
 header-in bs = record { version = field 0 1 bs; size = field 1 4 bs; nodes = field 5 2 bs; places = field 7 2 bs; leads = field 9 2 bs }
 
@@ -47,7 +49,7 @@ pub record LeadRecord : Type 0 where
   pub place : ℕ
   pub lead : Lead Times
 
--- 15 bytes: number, tail, head (2 each), rise, fall (4 each), contacts (1)
+-- the lead record that bytes begin with, and its bytes, 15 of them: number, tail, head (2 each), rise, fall (4 each), contacts (1)
 abbrev pub record-in : List ℕ → LeadRecord
 record-in bs = record {
   place = field 0 2 bs;

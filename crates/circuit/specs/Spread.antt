@@ -25,7 +25,7 @@ circuit s = table-net (length (s .signs)) (s .leads)
 abbrev pub sign-at : PlainSheet → ℕ → ℕ
 sign-at s v = getD (s .signs) v 0
 
--- a change of a signal: from low to high, or from high to low
+-- an edge is a change of a signal: from low to high, or from high to low
 pub data Edge : Type 0 where
   rising : Edge
   falling : Edge
@@ -78,6 +78,7 @@ module _ (sign : ℕ → ℕ) where
   spread-place K e (Some l) = Some (spread-lead K e l)
   spread-place K e None = None
 
+  -- twice the nodes and twice the places of the circuit, and at place j the lead for the edge that j tells
   abbrev pub spread-net : {D : Type 0} → Kind D → Net Times → Net D
   spread-net K C = record {
     nodes = 2 * C .nodes;
