@@ -3,4 +3,4 @@ pub mod Best
 pub mod Filling
 pub mod Rows
 pub mod Asking
-pub mod Existing
+pub mod Worked
