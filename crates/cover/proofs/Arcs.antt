@@ -10,9 +10,9 @@ use Rattle.std.specs.declared.option.Option.{Option}
 use Rattle.std.specs.declared.option.Option.the-variants.{Some, None}
 use Rattle.delay.specs.Kind.{Kind, Laws}
 use Rattle.wiring.specs.declared.Lead.{Lead}
-use Rattle.wiring.specs.Net.{Net, Holds, Sound, stands, tail-is, head-is, isLead, leaves, enters, hasIn, hasOut, isInner}
+use Rattle.wiring.specs.Net.{Net, Holds, Sound, stands, tail-is, head-is, isLead, hasIn, hasOut, isInner}
 use Rattle.wiring.specs.Lengths.{Marks, Types}
-use Rattle.wiring.specs.Loads.{starts, ends, isStart, isEnd, sum-where, Balanced, Loads, Best, total-load}
+use Rattle.wiring.specs.Loads.{starts, ends, isStart, isEnd, sum-where, Balanced, Loads, Best, total-load, drain-out, fed-in}
 use Rattle.wiring.proofs.Ends.{has-in, has-out, lead-in, lead-out, inner-parts}
 use Rattle.wiring.proofs.Types.{lead-at}
 use Rattle.wiring.proofs.Lengths.{local-to, sums-fed}
@@ -38,7 +38,7 @@ lies true false other pole node e = absurd (both-ways false refl e)
 lies false own other pole node e = inl (refl, refl, inl refl)
 
 -- an end that lies at no pole, and one that has both the mark and a lead on the other side
-lies-off : {outer : Bool} {place pole node : ℕ} {mark other : Bool} (v : ℕ) → Lies outer place pole node mark other → (v ≡ pole → ⊥) → place ≡ v →
+pub lies-off : {outer : Bool} {place pole node : ℕ} {mark other : Bool} (v : ℕ) → Lies outer place pole node mark other → (v ≡ pole → ⊥) → place ≡ v →
     (outer ≡ false) × (node ≡ v) × (mark ≡ true) × (other ≡ true)
 lies-off v (inl p) n e = absurd (n (sym e ∙ p .1))
 lies-off v (inr p) n e = (p .0, sym (p .1) ∙ e, p .2, p .3)
@@ -105,20 +105,20 @@ module _ {D : Type 0} {K : Kind D} {N : Net D} (S : Sound K N) (m : Marks) where
       omega (arith, l .begins, S .upwards (l .place) (l .lead) (l .holds), S .inside (l .place) (l .lead) (l .holds))
 
   -- at an inner node what ends are the fed leads in, and what begins are the draining leads out
-  into-is : (f : ℕ → ℕ) (v : ℕ) → isInner N v ≡ true → load.into (arcs-of N m) f v ≡ sum-where (N .places) (λ k. enters N v k && m k .1) f
-  into-is f v i = where-same (N .places) (flow.ends (arcs-of N m) v) (λ k. enters N v k && m k .1) f (λ k _. at k (N .at k) refl)
+  into-is : (f : ℕ → ℕ) (v : ℕ) → isInner N v ≡ true → load.into (arcs-of N m) f v ≡ sum-where (N .places) (fed-in N m v) f
+  into-is f v i = where-same (N .places) (flow.ends (arcs-of N m) v) (fed-in N m v) f (λ k _. at k (N .at k) refl)
     where
-      at : (k : ℕ) (o : Option (Lead D)) → N .at k ≡ o → (isLead N k && eqb (end-at N (m k) (N .at k)) v) ≡ (enters N v k && m k .1)
+      at : (k : ℕ) (o : Option (Lead D)) → N .at k ≡ o → (isLead N k && eqb (end-at N (m k) (N .at k)) v) ≡ fed-in N m v k
       at k (Some l) h =
           ap (λ b. b && eqb (end-at N (m k) (N .at k)) v) (ap stands h)
           ∙ lies-tells v (end-lies N m k l h) (inner-not-sink v i) (λ e. subst (λ x. hasOut N x ≡ true) (sym e) (inner-parts N v i .1))
           ∙ ap (λ o. head-is v o && m k .1) (sym h)
       at k None h = ap (λ o. stands o && eqb (end-at N (m k) o) v) h ∙ ap (λ o. head-is v o && m k .1) (sym h)
 
-  out-of-is : (f : ℕ → ℕ) (v : ℕ) → isInner N v ≡ true → load.out-of (arcs-of N m) f v ≡ sum-where (N .places) (λ k. leaves N v k && m k .0) f
-  out-of-is f v i = where-same (N .places) (flow.begins (arcs-of N m) v) (λ k. leaves N v k && m k .0) f (λ k _. at k (N .at k) refl)
+  out-of-is : (f : ℕ → ℕ) (v : ℕ) → isInner N v ≡ true → load.out-of (arcs-of N m) f v ≡ sum-where (N .places) (drain-out N m v) f
+  out-of-is f v i = where-same (N .places) (flow.begins (arcs-of N m) v) (drain-out N m v) f (λ k _. at k (N .at k) refl)
     where
-      at : (k : ℕ) (o : Option (Lead D)) → N .at k ≡ o → (isLead N k && eqb (begin-at N (m k) (N .at k)) v) ≡ (leaves N v k && m k .0)
+      at : (k : ℕ) (o : Option (Lead D)) → N .at k ≡ o → (isLead N k && eqb (begin-at N (m k) (N .at k)) v) ≡ drain-out N m v k
       at k (Some l) h =
           ap (λ b. b && eqb (begin-at N (m k) (N .at k)) v) (ap stands h)
           ∙ lies-tells v (begin-lies N m k l h) (inner-not-source v i) (λ e. subst (λ x. hasIn N x ≡ true) (sym e) (inner-parts N v i .0))

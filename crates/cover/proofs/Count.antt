@@ -14,7 +14,7 @@ use Rattle.wiring.specs.declared.Lead.{Lead}
 use Rattle.wiring.specs.Net.{Net, Holds, Sound, stands, tail-is, head-is, isLead, leaves, enters, some-below, hasIn, hasOut, isInner}
 use Rattle.wiring.specs.Paths.{On, PathOf, Covers}
 use Rattle.wiring.specs.Lengths.{Marks, Types}
-use Rattle.wiring.specs.Loads.{isStart, sum-where, Balanced, Loads, total-load, Best}
+use Rattle.wiring.specs.Loads.{isStart, sum-where, Balanced, Loads, total-load, Best, drain-out, fed-in}
 use Rattle.wiring.specs.Lists.{OneOf, AllPaths, CoversAll}
 use Rattle.wiring.proofs.Ends.{some-below-decides, head-from, tail-from, one-lead, below-places, input-parts, output-parts, inner-parts}
 use Rattle.wiring.proofs.Runs.{run-between, run-split, run-none, run-last, split-at, on-split}
@@ -86,16 +86,9 @@ module _ {D : Type 0} {K : Kind D} (L : Laws K) {N : Net D} (S : Sound K N) {to 
   abbrev Met : (ℕ → Bool) → List ℕ → Type 0
   Met Q p = (k : ℕ) × (Q k ≡ true) × Covers K N p k
 
-  -- the fed leads into v; the draining leads out of v
-  abbrev fed-in : ℕ → ℕ → Bool
-  fed-in v k = enters N v k && m k .1
-
-  abbrev drain-out : ℕ → ℕ → Bool
-  drain-out v k = leaves N v k && m k .0
-
   -- after a covered fed lead into an inner node a covered draining lead goes out of it
-  next-out : {k : ℕ} (v : ℕ) (pre post : List ℕ) → isInner N v ≡ true → fed-in v k ≡ true → Covers K N (pre ++ (k ∷ post)) k →
-      Met (drain-out v) (pre ++ (k ∷ post))
+  next-out : {k : ℕ} (v : ℕ) (pre post : List ℕ) → isInner N v ≡ true → fed-in N m v k ≡ true → Covers K N (pre ++ (k ∷ post)) k →
+      Met (drain-out N m v) (pre ++ (k ∷ post))
   next-out {k} v pre [] i e V =
       let C = cut-path pre (V .path) in
       let l = head-from v (N .at k) (and-parts (enters N v k) (m k .1) e .0) in
@@ -116,8 +109,8 @@ module _ {D : Type 0} {K : Kind D} (L : Laws K) {N : Net D} (S : Sound K N) {to 
       )
 
   -- and before a covered draining lead out of an inner node a covered fed lead came into it
-  back-in : {j : ℕ} (v : ℕ) (pre post : List ℕ) → isInner N v ≡ true → drain-out v j ≡ true → Covers K N (pre ++ (j ∷ post)) j →
-      Met (fed-in v) (pre ++ (j ∷ post))
+  back-in : {j : ℕ} (v : ℕ) (pre post : List ℕ) → isInner N v ≡ true → drain-out N m v j ≡ true → Covers K N (pre ++ (j ∷ post)) j →
+      Met (fed-in N m v) (pre ++ (j ∷ post))
   back-in {j} v [] post i e V =
       let C = cut-path [] (V .path) in
       let l = tail-from v (N .at j) (and-parts (leaves N v j) (m j .0) e .0) in
@@ -150,24 +143,25 @@ module _ {D : Type 0} {K : Kind D} (L : Laws K) {N : Net D} (S : Sound K N) {to 
     )
 
     -- along the path, to the covered lead ahead and to the one behind
-    met-out : (v : ℕ) → isInner N v ≡ true → Met (fed-in v) p → Met (drain-out v) p
+    met-out : (v : ℕ) → isInner N v ≡ true → Met (fed-in N m v) p → Met (drain-out N m v) p
     met-out v i g = let q = split-at (g .0) p (g .2 .through) in
-        subst (Met (drain-out v)) (sym (q .is)) (next-out v (q .pre) (q .post) i (g .1) (subst (λ (r : List ℕ). Covers K N r (g .0)) (q .is) (g .2)))
+        subst (Met (drain-out N m v)) (sym (q .is)) (next-out v (q .pre) (q .post) i (g .1) (subst (λ (r : List ℕ). Covers K N r (g .0)) (q .is) (g .2)))
 
-    met-in : (v : ℕ) → isInner N v ≡ true → Met (drain-out v) p → Met (fed-in v) p
+    met-in : (v : ℕ) → isInner N v ≡ true → Met (drain-out N m v) p → Met (fed-in N m v) p
     met-in v i g = let q = split-at (g .0) p (g .2 .through) in
-        subst (Met (fed-in v)) (sym (q .is)) (back-in v (q .pre) (q .post) i (g .1) (subst (λ (r : List ℕ). Covers K N r (g .0)) (q .is) (g .2)))
+        subst (Met (fed-in N m v)) (sym (q .is)) (back-in v (q .pre) (q .post) i (g .1) (subst (λ (r : List ℕ). Covers K N r (g .0)) (q .is) (g .2)))
 
     -- what one path covers is balanced
     one-balanced : Balanced N m (λ k. cond (c k) 1 0)
     one-balanced v i =
-        count-one (N .places) (fed-in v) c
+        count-one (N .places) (fed-in N m v) c
         (λ j k x a y b. enter-once S v P (C j .0 a .through) (C k .0 b .through) (and-parts (enters N v j) (m j .1) x .0)
             (and-parts (enters N v k) (m k .1) y .0))
         ∙ ap (λ (b : Bool). cond {A = ℕ} b 1 0)
-        (same-from-decides (some-below (N .places) (λ k. fed-in v k && c k)) (some-below (N .places) (λ k. drain-out v k && c k))
-        (decides-like (some-below (N .places) (λ k. fed-in v k && c k)) (met-out v i) (met-in v i) (met-decides (fed-in v))) (met-decides (drain-out v)))
-        ∙ sym (count-one (N .places) (drain-out v) c
+        (same-from-decides (some-below (N .places) (λ k. fed-in N m v k && c k)) (some-below (N .places) (λ k. drain-out N m v k && c k))
+        (decides-like (some-below (N .places) (λ k. fed-in N m v k && c k)) (met-out v i) (met-in v i) (met-decides (fed-in N m v)))
+            (met-decides (drain-out N m v)))
+        ∙ sym (count-one (N .places) (drain-out N m v) c
         (λ j k x a y b. leave-once S v P (C j .0 a .through) (C k .0 b .through) (and-parts (leaves N v j) (m j .0) x .0)
             (and-parts (leaves N v k) (m k .0) y .0)))
 
@@ -207,7 +201,7 @@ module _ {D : Type 0} {K : Kind D} (L : Laws K) {N : Net D} (S : Sound K N) {to 
   counted [] A = record {
     load = λ k. 0;
     vacant = λ k e. refl;
-    balanced = λ v i. where-zero (N .places) (fed-in v) ∙ sym (where-zero (N .places) (drain-out v));
+    balanced = λ v i. where-zero (N .places) (fed-in N m v) ∙ sym (where-zero (N .places) (drain-out N m v));
     few = omega (arith, where-zero (N .places) (isStart N m));
     each = λ k p o V. elim o [ ];
   }
@@ -221,9 +215,9 @@ module _ {D : Type 0} {K : Kind D} (L : Laws K) {N : Net D} (S : Sound K N) {to 
         load = λ k. one k + R .load k;
         vacant = λ k e. omega (arith, one-vacant p P c C k e, R .vacant k e);
         balanced = λ v i.
-            where-add (N .places) (fed-in v) one (R .load)
+            where-add (N .places) (fed-in N m v) one (R .load)
             ∙ (omega (arith, one-balanced p P c C v i, R .balanced v i))
-            ∙ sym (where-add (N .places) (drain-out v) one (R .load));
+            ∙ sym (where-add (N .places) (drain-out N m v) one (R .load));
         few = omega (arith, where-add (N .places) (isStart N m) one (R .load), one-total p P c C, R .few);
         each = λ k q o V. ⊎-elim
             (λ e. let z = ap (λ (b : Bool). cond {A = ℕ} b 1 0) (C k .1 (subst (λ (r : List ℕ). Covers K N r k) e V)) in omega arith)

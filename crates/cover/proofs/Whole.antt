@@ -5,15 +5,16 @@ use native.Mathlib.Omega.{arith}
 use Rattle.std.proofs.shelf.Tests.{cases-bool}
 use Rattle.delay.specs.Kind.{Kind, Laws}
 use Rattle.wiring.specs.Net.{isLead}
-use Rattle.wiring.specs.Lengths.{To, From}
+use Rattle.wiring.specs.Lengths.{To, From, marks-of}
 use Rattle.wiring.proofs.Ends.{head-inside}
 use Rattle.wiring.proofs.Lengths.{to-unique}
 use Rattle.wiring.proofs.FromLengths.{from-unique}
 use Rattle.wiring.proofs.Cover.{parts-cover, cover-parts, covers-or-not}
 use Rattle.wiring.proofs.Steps.{covers-step, unfed-last, undrained-first}
-use Rattle.wiring.proofs.Types.{marks-of, types-by-tables, types-same}
+use Rattle.wiring.proofs.Types.{types-by-tables, types-same}
 use Rattle.wiring.proofs.Marks.{one-start, one-end}
-use Rattle.lengths.proofs.Existing.{lengths-exist}
+use Rattle.lengths.specs.Worked.{worked-from, worked-to}
+use Rattle.lengths.proofs.Worked.{worked-tables}
 use Rattle.flow.specs.Table as flow
 use Rattle.flow.proofs.Cuts.{at-most-total}
 use Rattle.flow.proofs.Best.{best-one}
@@ -26,7 +27,7 @@ use Rattle.cover.proofs.Witness.{witness}
 
 module _ {D : Type 0} {K : Kind D} (L : Laws K) where
   pub covering-is-local : Covering-is-local K
-  covering-is-local N S = let T = lengths-exist L S .2 in record {
+  covering-is-local N S = let T = worked-tables L S in record {
     parts = λ k l h pre post P. let b = head-inside S k l h in (
       (λ V. let M = cover-parts L S T l h pre post V in (
         subst (To K N (l .tail)) (sym (M .before)) (T .to-is (l .tail) (omega arith)),
@@ -48,7 +49,7 @@ module _ {D : Type 0} {K : Kind D} (L : Laws K) where
   pub loads-are-arc-loads : Loads-are-arc-loads K
   loads-are-arc-loads N S m Y = record {
     sound = arcs-sound S m;
-    joined = arcs-joined L S (lengths-exist L S .2) Y;
+    joined = arcs-joined L S (worked-tables L S) Y;
     loads = λ f. (loads-to-arcs S m f, arcs-to-loads S m f);
     total = same-total S m;
     best = λ f. (best-to-arcs S m f, arcs-to-best S m f);
@@ -62,10 +63,9 @@ module _ {D : Type 0} {K : Kind D} (L : Laws K) where
 
   pub one-best-loads : One-best-loads K
   one-best-loads N S =
-      let W = lengths-exist L S in
-      let m = marks-of K N (W .0) (W .1) in
-      let Y = types-by-tables L S (W .2) in
-      let B = joined-best (arcs-of N m) (arcs-sound S m) (arcs-joined L S (W .2) Y) in
+      let m = marks-of K N (worked-to K N) (worked-from K N) in
+      let Y = types-by-tables L S (worked-tables L S) in
+      let B = joined-best (arcs-of N m) (arcs-sound S m) (arcs-joined L S (worked-tables L S) Y) in
       let F = arcs-to-best S m (B .0) (B .1) in
       record {
         marks = m;
@@ -77,10 +77,10 @@ module _ {D : Type 0} {K : Kind D} (L : Laws K) where
       }
 
   pub no-shorter-list : No-shorter-list K
-  no-shorter-list N S m Y = no-shorter L S (lengths-exist L S .2) Y
+  no-shorter-list N S m Y = no-shorter L S (worked-tables L S) Y
 
   pub witness-of-cut : Witness-of-cut K
-  witness-of-cut N S m Y = witness L S (lengths-exist L S .2) Y
+  witness-of-cut N S m Y = witness L S (worked-tables L S) Y
 
   pub witness-exists : Witness-exists K
   witness-exists N S m Y f B =

@@ -1,7 +1,6 @@
 -- With filled tables, what is asked of a lead is told by them.
-use mathlib.Core.Path.{_≡_, refl, sym, ap, subst, _∙_}
-use mathlib.Core.List.{List, [], _∷_}
-use mathlib.Core.Logic.{inl}
+use mathlib.Core.Path.{_≡_, refl, ap, subst, _∙_}
+use mathlib.Core.List.{List}
 use Prim.Native.Nat.{ℕ}
 use native.Mathlib.Omega.{arith}
 use Rattle.std.specs.Orderings.{Decides}
@@ -10,12 +9,11 @@ use Rattle.std.specs.declared.option.Option.the-variants.{Some, None}
 use Rattle.delay.specs.Kind.{Kind, Within, Laws}
 use Rattle.delay.proofs.Sums.{le-trans}
 use Rattle.wiring.specs.declared.Lead.{Lead}
-use Rattle.wiring.specs.Net.{Net, Holds, Sound, stands}
-use Rattle.wiring.specs.Paths.{On, PathOf}
-use Rattle.wiring.specs.Lengths.{Fed, Drains, LongestPath, type-by, through-by}
+use Rattle.wiring.specs.Net.{Net, stands}
+use Rattle.wiring.specs.Lengths.{Fed, Drains, type-by, through-by, marks-in}
 use Rattle.wiring.proofs.Ends.{below-places}
 use Rattle.wiring.proofs.Cover.{Tables, longest-through, through-within, path-starts, path-within}
-use Rattle.wiring.proofs.Types.{marks-in, types-by-tables}
+use Rattle.wiring.proofs.Types.{types-by-tables}
 use Rattle.lengths.specs.Tables.{entry}
 use Rattle.lengths.specs.Asked.{Filled, of-lead, TypeOf, ThroughOf, LongestOf}
 use Rattle.lengths.proofs.Best.{BestBelow}

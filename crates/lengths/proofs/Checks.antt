@@ -1,5 +1,5 @@
 -- A check that finds nothing shows that the wiring is sound; what it finds is the first fault.
-use mathlib.Core.Path.{_≡_, sym, subst}
+use mathlib.Core.Path.{sym, subst}
 use Prim.Native.Nat.{ℕ}
 use Rattle.delay.specs.Kind.{Kind}
 use Rattle.wiring.specs.declared.Lead.{Lead}

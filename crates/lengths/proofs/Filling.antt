@@ -1,20 +1,18 @@
 -- Filling a table of lengths node by node: what keeps the rule at a node, and that the rules give To and From.
 use mathlib.Core.Path.{_≡_, refl, sym, ap, subst, _∙_}
-use mathlib.Core.Logic.{_⊎_, inl, inr, ⊎-elim, _≢_}
-use mathlib.Core.Bool.{true, false}
+use mathlib.Core.Logic.{⊎-elim, _≢_}
 use mathlib.Core.List.{List}
-use Prim.Native.Nat.{ℕ, zero, suc, _+_, _-_, _≤_, _<_}
+use Prim.Native.Nat.{ℕ, zero, suc, _+_, _<_}
 use native.Mathlib.Omega.{arith}
 use borrow.Author.Count.{below-more}
-use lib.ListN.{length, getD, set}
+use lib.ListN.{length, set}
 use lib.Seq.{getD-set-same, getD-set-other}
 use Rattle.std.proofs.shelf.Tests.{cases-bool, both-ways}
 use Rattle.std.specs.declared.option.Option.the-variants.{Some, None}
 use Rattle.delay.specs.Kind.{Kind, SumOf, none, both, Within, Laws, Le}
-use Rattle.delay.proofs.Sums.{weaken}
 use Rattle.wiring.specs.declared.Lead.{Lead}
-use Rattle.wiring.specs.Net.{Net, Holds, Sound, hasIn, isInput, isOutput}
-use Rattle.wiring.specs.Lengths.{To, From}
+use Rattle.wiring.specs.Net.{Net, Holds, Sound, hasIn}
+use Rattle.wiring.specs.Lengths.{From}
 use Rattle.wiring.specs.Views.{mirror, turned-net}
 use Rattle.wiring.proofs.Ends.{below-places, head-inside, lead-in, has-in, in-inside, out-inside, input-parts, output-parts}
 use Rattle.wiring.proofs.Runs.{lead-sum}
@@ -23,16 +21,12 @@ use Rattle.wiring.proofs.Lengths.{to-unique}
 use Rattle.wiring.proofs.Turning.{from-turned}
 use Rattle.wiring.proofs.FromLengths.{from-unique, local-from}
 use Rattle.lengths.specs.Tables.{entry, HoldsTo, HoldsFrom}
-use Rattle.lengths.specs.Steps.{LengthAt}
+use Rattle.lengths.specs.Steps.{offer, LengthAt}
 use Rattle.lengths.proofs.Best.{BestBelow}
 
 -- the table to keeps the rule at every node below v
 abbrev pub Each : {D : Type 0} → Kind D → Net D → (ℕ → D) → ℕ → Type 0
 Each K N to v = (u : ℕ) → u < v → LengthAt K N to u (to u)
-
--- what a lead gives its head
-abbrev pub offer : {D : Type 0} → Kind D → (ℕ → D) → Lead D → D
-offer K to l = K .plus (to (l .tail)) (l .delay)
 
 module _ {D : Type 0} (K : Kind D) (N : Net D) (S : Sound K N) where
   -- the rule at v asks only for lengths below v

@@ -4,4 +4,4 @@ pub mod Filling
 pub mod Rows
 pub mod Asking
 pub mod Pinned
-pub mod Existing
+pub mod Worked

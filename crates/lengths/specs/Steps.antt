@@ -13,6 +13,10 @@ abbrev pub longer-of : {D : Type 0} → Kind D → Option D → D → D
 longer-of K None d = d
 longer-of K (Some b) d = cond (K .below b d) d b
 
+-- what a lead gives its head: the length at its tail, and its delay
+abbrev pub offer : {D : Type 0} → Kind D → (ℕ → D) → Lead D → D
+offer K to l = K .plus (to (l .tail)) (l .delay)
+
 -- x is the length at v by the lengths of the nodes below it: zero with no lead in, else the longest that a lead in gives
 pub record LengthAt {D : Type 0} (K : Kind D) (N : Net D) (to : ℕ → D) (v : ℕ) (x : D) : Type 0 where
   pub start : hasIn N v ≡ false → x ≡ K .zero

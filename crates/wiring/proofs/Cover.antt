@@ -7,7 +7,7 @@ use Prim.Native.Nat.{ℕ, _+_, _-_, _≤_, _<_}
 use native.Mathlib.Omega.{arith}
 use Rattle.std.proofs.shelf.Tests.{both-ways}
 use Rattle.wiring.specs.declared.Lead.{Lead}
-use Rattle.delay.specs.Kind.{Kind, SumOf, one, both, most-leads, Within, Laws, Le}
+use Rattle.delay.specs.Kind.{Kind, SumOf, both, most-leads, Within, Laws, Le}
 use Rattle.wiring.specs.Net.{Net, Holds, Sound, hasIn, isInput, isOutput}
 use Rattle.wiring.specs.Paths.{Run, stay, along, On, PathOf, Covers, delayOf}
 use Rattle.wiring.specs.Lengths.{To, From, LongestThrough, through-by}

@@ -1,14 +1,14 @@
 -- What From says of leads, found through the turned view: the rules at nodes and leads, and draining leads.
-use mathlib.Core.Path.{_≡_, refl, sym, ap, subst, _∙_}
+use mathlib.Core.Path.{_≡_, sym, ap, subst, _∙_}
 use mathlib.Core.Logic.{_⊎_, inl, inr, ⊎-elim}
-use mathlib.Core.Bool.{true, false}
+use mathlib.Core.Bool.{true}
 use mathlib.Core.List.{List, reverse}
-use Prim.Native.Nat.{ℕ, _+_, _-_, _≤_, _<_}
+use Prim.Native.Nat.{ℕ, _<_}
 use native.Mathlib.Omega.{arith}
-use Rattle.delay.specs.Kind.{Kind, SumOf, both, most-leads, Laws, Le}
+use Rattle.delay.specs.Kind.{Kind, both, most-leads, Laws, Le}
 use Rattle.delay.proofs.Sums.{weaken, same-or-not}
 use Rattle.wiring.specs.declared.Lead.{Lead}
-use Rattle.wiring.specs.Net.{Net, Holds, Sound, hasIn, hasOut}
+use Rattle.wiring.specs.Net.{Net, Holds, Sound, hasOut}
 use Rattle.wiring.specs.Paths.{Run, delayOf}
 use Rattle.wiring.specs.Lengths.{To, From, Drains}
 use Rattle.wiring.specs.Views.{mirror, flip, turned-net}

@@ -5,17 +5,16 @@ use mathlib.Core.Bool.{true, false}
 use mathlib.Core.List.{List, [], _∷_}
 use Prim.Native.Nat.{ℕ, zero, _+_, _-_, _≤_, _<_}
 use native.Mathlib.Omega.{arith}
-use lib.ListN.{length}
 use Rattle.std.proofs.shelf.Tests.{both-ways}
 use Rattle.wiring.specs.declared.Lead.{Lead}
-use Rattle.delay.specs.Kind.{Kind, SumOf, none, one, both, most-leads, Laws, Le}
+use Rattle.delay.specs.Kind.{Kind, SumOf, none, both, most-leads, Laws, Le}
 use Rattle.wiring.specs.Net.{Net, Holds, Sound, hasIn, hasOut, isInput, isOutput, isBare}
 use Rattle.wiring.specs.Paths.{Run, stay, along, delayOf}
-use Rattle.wiring.specs.Lengths.{LongestTo, To, LongestFrom, From, Fed, Drains}
-use Rattle.delay.proofs.Sums.{weaken, le-anti, plus-le, le-plus, same-or-not}
-use Rattle.wiring.proofs.Ends.{one-lead, head-inside, has-in, has-out, in-inside, out-inside, input-parts, output-parts, bare-parts}
-use Rattle.wiring.proofs.Runs.{at-delay, run-append, run-one, run-in, run-out, run-last, run-to-sum, run-from-sum, lead-sum, delay-last}
-use Rattle.wiring.proofs.Local.{FedIn, DrainsOut, LocalTo, LocalFrom}
+use Rattle.wiring.specs.Lengths.{LongestTo, To, LongestFrom, From, Fed}
+use Rattle.delay.proofs.Sums.{weaken, le-anti, plus-le, same-or-not}
+use Rattle.wiring.proofs.Ends.{one-lead, head-inside, has-out, in-inside, input-parts, output-parts, bare-parts}
+use Rattle.wiring.proofs.Runs.{run-append, run-one, run-in, run-out, run-last, run-to-sum, run-from-sum, lead-sum, delay-last}
+use Rattle.wiring.proofs.Local.{FedIn, LocalTo}
 
 module _ {D : Type 0} {K : Kind D} {N : Net D} (S : Sound K N) where
   -- no run from an input ends at a bare node, and none from it to an output begins there

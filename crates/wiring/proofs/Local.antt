@@ -3,7 +3,7 @@ use mathlib.Core.Path.{_≡_, refl, sym, ap, subst, _∙_}
 use mathlib.Core.Logic.{_⊎_, inl, inr, ⊎-elim}
 use mathlib.Core.Bool.{true, false}
 use mathlib.Core.List.{List, [], _∷_, _++_}
-use Prim.Native.Nat.{ℕ, zero, suc, _+_, _-_, _≤_, _<_}
+use Prim.Native.Nat.{ℕ, zero, suc, _+_, _≤_, _<_}
 use native.Mathlib.Omega.{arith}
 use lib.ListN.{length}
 use Rattle.std.proofs.shelf.Tests.{cases-bool}
@@ -11,11 +11,11 @@ use Rattle.wiring.specs.declared.Lead.{Lead}
 use Rattle.delay.specs.Kind.{Kind, SumOf, one, both, most-leads, Within, Laws, Le}
 use Rattle.wiring.specs.Net.{Net, Holds, Sound, hasIn, hasOut}
 use Rattle.wiring.specs.Paths.{Run, stay, along, delayAt, delayOf}
-use Rattle.wiring.specs.Lengths.{LongestTo, To, LongestFrom, From}
-use Rattle.delay.proofs.Sums.{weaken, plus-zero, le-eq, le-trans, plus-le, le-plus}
-use Rattle.wiring.proofs.Ends.{in-inside, out-inside, input-parts, output-parts, is-bare}
-use Rattle.wiring.proofs.Runs.{at-delay, run-append, run-one, run-length, run-inside, run-sum, run-to-sum, run-from-sum, lawful-at, delay-last}
-use Rattle.wiring.proofs.Reach.{run-starts, run-stops}
+use Rattle.wiring.specs.Lengths.{LongestTo, To}
+use Rattle.delay.proofs.Sums.{weaken, plus-zero, le-eq, le-trans, plus-le}
+use Rattle.wiring.proofs.Ends.{out-inside, input-parts, is-bare}
+use Rattle.wiring.proofs.Runs.{at-delay, run-append, run-one, run-length, run-inside, run-sum, run-to-sum, lawful-at, delay-last}
+use Rattle.wiring.proofs.Reach.{run-starts}
 
 -- a lead into v that makes up the length at v
 pub record FedIn {D : Type 0} (K : Kind D) (N : Net D) (to : ℕ → D) (v : ℕ) : Type 0 where

@@ -8,7 +8,7 @@ use native.Mathlib.Omega.{arith}
 use lib.ListN.{length}
 use Rattle.delay.specs.Kind.{Kind, SumOf, both, most-leads, Laws, Le}
 use Rattle.wiring.specs.Net.{Net, Sound, isInput, isOutput}
-use Rattle.wiring.specs.Paths.{along, PathOf, Covers, delayOf}
+use Rattle.wiring.specs.Paths.{PathOf, Covers, delayOf}
 use Rattle.wiring.specs.Lengths.{Fed, Drains}
 use Rattle.delay.proofs.Sums.{weaken, le-refl, le-trans, plus-le, le-plus, parts-same}
 use Rattle.wiring.proofs.Ends.{head-inside, in-inside, output-parts}

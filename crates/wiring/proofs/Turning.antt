@@ -1,9 +1,9 @@
 -- What the turned view of a wiring tells: its runs are those of the wiring the other way round, and its To is From.
 use mathlib.Core.Path.{_≡_, refl, sym, ap, subst, _∙_, fun-ext}
-use mathlib.Core.Logic.{_⊎_, inl, inr, ⊎-elim}
+use mathlib.Core.Logic.{inl, inr}
 use mathlib.Core.Bool.{Bool, true, false, _&&_, not}
-use mathlib.Core.List.{List, [], _∷_, _++_, reverse, reverse-cons, reverse-reverse}
-use Prim.Native.Nat.{ℕ, _+_, _-_, _≤_, _<_}
+use mathlib.Core.List.{List, [], _∷_, reverse, reverse-cons, reverse-reverse}
+use Prim.Native.Nat.{ℕ, _<_}
 use native.Mathlib.Omega.{arith}
 use lib.Dec.{ltb, eqb}
 use Rattle.std.proofs.shelf.Tests.{and-from, lt-ltb, cond-true}
@@ -11,14 +11,13 @@ use Rattle.std.proofs.shelf.Ways.{tells}
 use Rattle.std.specs.declared.option.Option.{Option}
 use Rattle.std.specs.declared.option.Option.the-variants.{Some, None}
 use Rattle.delay.specs.Kind.{Kind, Laws, Le}
-use Rattle.delay.proofs.Sums.{weaken}
 use Rattle.wiring.specs.declared.Lead.{Lead}
 use Rattle.wiring.specs.Net.{Net, Holds, InOrder, Sound, tail-is, head-is, enters, leaves, some-below, hasIn, hasOut, isInput, isOutput, isBare}
-use Rattle.wiring.specs.Paths.{Run, stay, along, delay-in, delayAt, delayOf}
-use Rattle.wiring.specs.Lengths.{LongestTo, LongestFrom, To, From}
+use Rattle.wiring.specs.Paths.{Run, stay, along, delayOf}
+use Rattle.wiring.specs.Lengths.{To, From}
 use Rattle.wiring.specs.Views.{mirror, flip, turn, turn-place, turned-net, Mirrored, MirroredLengths, Turning}
 use Rattle.wiring.proofs.Ends.{in-inside, out-inside, input-parts, output-parts}
-use Rattle.wiring.proofs.Runs.{at-delay, run-append, run-length, run-sum, run-to-sum, run-from-sum, lead-sum, delay-last}
+use Rattle.wiring.proofs.Runs.{at-delay, run-append, run-length, run-sum, lead-sum, delay-last}
 
 pub in-order : {D : Type 0} {K : Kind D} {N : Net D} → Sound K N → InOrder N
 in-order S = record { upwards = S .upwards; inside = S .inside }

@@ -1,7 +1,7 @@
 -- The two marks of a lead, told from the length tables.
 use mathlib.Core.Path.{_≡_, refl, sym, ap, subst, _∙_, fun-ext}
 use mathlib.Core.Logic.{⊎-elim}
-use mathlib.Core.Bool.{Bool, true, false, _&&_, not}
+use mathlib.Core.Bool.{Bool, true, false, not}
 use Prim.Native.Nat.{ℕ}
 use native.Mathlib.Omega.{arith}
 use Rattle.std.proofs.shelf.Tests.{cases-bool, both-ways, and-parts, and-from, not-true, not-from-false}
@@ -12,7 +12,7 @@ use Rattle.std.specs.declared.option.Option.the-variants.{Some, None}
 use Rattle.wiring.specs.declared.Lead.{Lead}
 use Rattle.delay.specs.Kind.{Kind, both, Within, Laws, level}
 use Rattle.wiring.specs.Net.{Net, Holds, Sound, stands, isLead}
-use Rattle.wiring.specs.Lengths.{Fed, Drains, Marks, Types, type-by}
+use Rattle.wiring.specs.Lengths.{Fed, Drains, Marks, Types, marks-in, marks-of}
 use Rattle.delay.proofs.Sums.{weaken, le-eq}
 use Rattle.wiring.proofs.Ends.{head-inside}
 use Rattle.wiring.proofs.Runs.{lead-sum}
@@ -28,14 +28,6 @@ level-decides {K = K} L {x} {y} a b = (
 
 pair-same : {p q : Bool × Bool} → p .0 ≡ q .0 → p .1 ≡ q .1 → p ≡ q
 pair-same a b = λ i. (a i, b i)
-
--- the marks of a lead by the tables; a vacant place has neither
-abbrev pub marks-in : {D : Type 0} → Kind D → (ℕ → D) → (ℕ → D) → Option (Lead D) → Bool × Bool
-marks-in K to from (Some l) = type-by K to from l
-marks-in K to from None = (false, false)
-
-abbrev pub marks-of : {D : Type 0} → Kind D → Net D → (ℕ → D) → (ℕ → D) → Marks
-marks-of K N to from k = marks-in K to from (N .at k)
 
 pub lead-at : {D : Type 0} (N : Net D) (k : ℕ) → isLead N k ≡ true → (l : Lead D) × Holds N k l
 lead-at {D} N k e = go (N .at k) refl e

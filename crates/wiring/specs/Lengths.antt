@@ -4,6 +4,8 @@ use mathlib.Core.Bool.{Bool, true, false}
 use mathlib.Core.List.{List}
 use mathlib.Core.Logic.{_⊎_}
 use Prim.Native.Nat.{ℕ}
+use Rattle.std.specs.declared.option.Option.{Option}
+use Rattle.std.specs.declared.option.Option.the-variants.{Some, None}
 use Rattle.delay.specs.Kind.{Kind, Le, level}
 use Rattle.wiring.specs.declared.Lead.{Lead}
 use Rattle.wiring.specs.Net.{Net, Holds, isLead, isInput, isOutput, isBare}
@@ -87,3 +89,11 @@ type-by K to from l = (level K (K .plus (l .delay) (from (l .head))) (from (l .t
 -- and the delay of a longest path through it, To(tail) + delay + From(head)
 abbrev pub through-by : {D : Type 0} → Kind D → (ℕ → D) → (ℕ → D) → Lead D → D
 through-by K to from l = K .plus (to (l .tail)) (K .plus (l .delay) (from (l .head)))
+
+-- the marks of every place by such lengths: a vacant place has neither
+abbrev pub marks-in : {D : Type 0} → Kind D → (ℕ → D) → (ℕ → D) → Option (Lead D) → Bool × Bool
+marks-in K to from (Some l) = type-by K to from l
+marks-in K to from None = (false, false)
+
+abbrev pub marks-of : {D : Type 0} → Kind D → Net D → (ℕ → D) → (ℕ → D) → Marks
+marks-of K N to from k = marks-in K to from (N .at k)

@@ -33,10 +33,16 @@ sum-below (suc n) f = sum-below n f + f n
 abbrev pub sum-where : ℕ → (ℕ → Bool) → (ℕ → ℕ) → ℕ
 sum-where n P f = sum-below n (λ k. cond (P k) (f k) 0)
 
+-- k is a fed lead into the node v; it is a draining lead out of v
+abbrev pub fed-in : {D : Type 0} → Net D → Marks → ℕ → ℕ → Bool
+fed-in N m v k = enters N v k && m k .1
+
+abbrev pub drain-out : {D : Type 0} → Net D → Marks → ℕ → ℕ → Bool
+drain-out N m v k = leaves N v k && m k .0
+
 -- at every inner node f gives the fed leads in as much as the draining leads out
 abbrev pub Balanced : {D : Type 0} → Net D → Marks → (ℕ → ℕ) → Type 0
-Balanced N m f = (v : ℕ) → isInner N v ≡ true →
-    sum-where (N .places) (λ k. enters N v k && m k .1) f ≡ sum-where (N .places) (λ k. leaves N v k && m k .0) f
+Balanced N m f = (v : ℕ) → isInner N v ≡ true → sum-where (N .places) (fed-in N m v) f ≡ sum-where (N .places) (drain-out N m v) f
 
 -- f is loads: at least 1 at every lead, nothing at a vacant place, and balanced
 pub record Loads {D : Type 0} (N : Net D) (m : Marks) (f : ℕ → ℕ) : Type 0 where

@@ -1,10 +1,9 @@
-use mathlib.Core.Path.{_≡_, refl, sym, subst, ap, _∙_}
-use mathlib.Core.List.{List}
+use mathlib.Core.Path.{_≡_, sym, subst, ap, _∙_}
 use Prim.Native.Nat.{ℕ, _+_}
 use native.Mathlib.Omega.{arith}
 use denote.Ref.{now}
 use Rattle.std.specs.declared.option.Option.{Option}
-use Rattle.std.specs.declared.option.Option.the-variants.{Some, None}
+use Rattle.std.specs.declared.option.Option.the-variants.{Some}
 use Rattle.delay.specs.Kind.{Within}
 use Rattle.wiring.specs.declared.Lead.{Lead}
 use Rattle.wiring.specs.Net.{Holds}
@@ -12,7 +11,7 @@ use Rattle.wiring.specs.Lengths.{through-by}
 use Rattle.wiring.proofs.Cover.{through-within}
 use Rattle.lengths.specs.Tables.{entry}
 use Rattle.lengths.specs.Steps.{longer-of}
-use Rattle.lengths.specs.Asked.{of-lead, LongestOf}
+use Rattle.lengths.specs.Asked.{of-lead}
 use Rattle.lengths.proofs.Best.{BestBelow, best-skip, best-more}
 use Rattle.lengths.proofs.Asking.{tables, longest-told, lead-from}
 use Rattle.lengths.proofs.asked.longest_of.Needs as need

@@ -1,18 +1,18 @@
 use Prim.Native.Nat.{ℕ, _+_, _<_}
-use mathlib.Core.Path.{_≡_, refl, subst, sym, _∙_, ap}
+use mathlib.Core.Path.{_≡_, subst, sym, _∙_, ap}
 use native.Mathlib.Omega.{arith}
-use lib.ListN.{length, getD}
+use lib.ListN.{length}
 use Rattle.std.proofs.shelf.Lists.{getD-read}
 use Rattle.std.specs.declared.option.Option.{Option}
-use Rattle.std.specs.declared.option.Option.the-variants.{Some, None}
+use Rattle.std.specs.declared.option.Option.the-variants.{Some}
 use Rattle.delay.specs.Kind.{Within}
 use Rattle.wiring.specs.declared.Lead.{Lead}
 use Rattle.wiring.specs.Net.{Holds}
 use Rattle.wiring.proofs.Ends.{head-inside, one-lead}
 use Rattle.lengths.specs.Tables.{entry}
-use Rattle.lengths.specs.Steps.{longer-of, LengthAt}
+use Rattle.lengths.specs.Steps.{longer-of, offer, LengthAt}
 use Rattle.lengths.proofs.Best.{BestBelow, best-skip, best-more}
-use Rattle.lengths.proofs.Filling.{offer, offers-within, length-if-none, length-if-some}
+use Rattle.lengths.proofs.Filling.{offers-within, length-if-none, length-if-some}
 use Rattle.lengths.proofs.table.length_at.Needs as need
 use Rattle.lengths.proofs.table.length_at.Needs.{in-Some·then-l-v, in-Some·else-l-v, in-rest}
 

@@ -1,7 +1,7 @@
 use mathlib.Core.Path.{_≡_}
 use Rattle.lengths.specs.Tables.{entry}
+use Rattle.lengths.specs.Steps.{offer}
 use Rattle.lengths.proofs.Best.{BestBelow}
-use Rattle.lengths.proofs.Filling.{offer}
 use Rattle.lengths.proofs.table.length_at.Given as given
 
 abbrev pub Inv-loop-place : given.InvT-loop-place

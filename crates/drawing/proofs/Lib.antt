@@ -1,0 +1,11 @@
+pub mod Walks
+pub mod Parts
+pub mod Left
+pub mod Exist
+pub mod Paths
+pub mod Only
+pub mod Alike
+pub mod Certify
+pub mod Rows
+pub mod Progress
+pub mod Whole
