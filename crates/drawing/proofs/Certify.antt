@@ -14,11 +14,11 @@ use Rattle.wiring.specs.declared.Lead.{Lead}
 use Rattle.wiring.specs.Net.{Net, Holds, Sound, all-below}
 use Rattle.wiring.specs.Lengths.{Marks}
 use Rattle.wiring.specs.Lists.{Lowest, lowered, tailAt, headAt, begins, Walk, Drawn, Draws, Walk, onwards, backwards, forwards, Walker}
-use Rattle.wiring.proofs.Ends.{below-places}
+use Rattle.wiring.proofs.Ends.{below-places, all-below-at}
 use Rattle.wiring.proofs.Types.{types-by-tables}
 use Rattle.lengths.proofs.Worked.{worked-tables}
 use Rattle.flow.specs.Tests.{best-test}
-use Rattle.flow.proofs.Tests.{all-below-at, best-by-test}
+use Rattle.flow.proofs.Tests.{best-by-test}
 use Rattle.cover.specs.Arcs.{arcs-of}
 use Rattle.cover.proofs.Arcs.{arcs-sound, arcs-to-best}
 use Rattle.drawing.specs.Tests.{Drawing, core-of, path-of, lowest-test, walk-test, lead-test, sound-test, drawn-test, draws-test, worked-marks, loads-in}

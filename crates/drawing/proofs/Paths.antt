@@ -24,17 +24,17 @@ use Rattle.cover.proofs.Arcs.{end-lies}
 use Rattle.drawing.proofs.Parts.{Out, In, out-parts, in-parts, goes-parts, first-parts, tail-of, head-of}
 
 -- a longest run from an input to v, and one from v to an output
-pub record Came {D : Type 0} (K : Kind D) (N : Net D) (to : ℕ → D) (v : ℕ) (ks : List ℕ) : Type 0 where
-  pub source : ℕ
-  pub from-input : isInput N source ≡ true
-  pub run : Run N source v ks
-  pub delay : delayOf K N ks ≡ to v
+record Came {D : Type 0} (K : Kind D) (N : Net D) (to : ℕ → D) (v : ℕ) (ks : List ℕ) : Type 0 where
+  source : ℕ
+  from-input : isInput N source ≡ true
+  run : Run N source v ks
+  delay : delayOf K N ks ≡ to v
 
-pub record Going {D : Type 0} (K : Kind D) (N : Net D) (from : ℕ → D) (v : ℕ) (ks : List ℕ) : Type 0 where
-  pub sink : ℕ
-  pub to-output : isOutput N sink ≡ true
-  pub run : Run N v sink ks
-  pub delay : delayOf K N ks ≡ from v
+record Going {D : Type 0} (K : Kind D) (N : Net D) (from : ℕ → D) (v : ℕ) (ks : List ℕ) : Type 0 where
+  sink : ℕ
+  to-output : isOutput N sink ≡ true
+  run : Run N v sink ks
+  delay : delayOf K N ks ≡ from v
 
 -- a path has fewer leads than the wiring has nodes
 pub path-few : {D : Type 0} {K : Kind D} {N : Net D} → Sound K N → {p : List ℕ} → PathOf N p → length p < N .nodes

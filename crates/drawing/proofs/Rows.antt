@@ -12,7 +12,7 @@ use Rattle.delay.specs.Delivered.{picosecond-kind, contact-kind, early-kind}
 use Rattle.delay.proofs.DeliveredLaws.{picosecond-laws, contact-laws, early-laws}
 use Rattle.wiring.specs.Net.{all-below}
 use Rattle.wiring.specs.Lists.{words}
-use Rattle.flow.proofs.Tests.{all-below-at}
+use Rattle.wiring.proofs.Ends.{all-below-at}
 use Rattle.drawing.specs.Tests.{Drawing, Certificate, paths-of, worked-marks, list-test}
 use Rattle.drawing.specs.Rows.{Reading, late, early, contact, Row, wired, Gives, Given, rows, Rows-are-given}
 use Rattle.drawing.proofs.Certify.{list-by-test}

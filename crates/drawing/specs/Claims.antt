@@ -30,8 +30,8 @@ One-list D = (K : Kind D) (N : Net D) (ps qs : List (List ℕ)) → ListOf K N p
 abbrev pub Same-leads-same-list : Type 0 → Type 0
 Same-leads-same-list D = (K : Kind D) (N M : Net D) → ((k : ℕ) → N .at k ≡ M .at k) → (ps : List (List ℕ)) → ListOf K N ps → ListOf K M ps
 
--- ps is a smallest cover: paths that cover every lead, fewer than no other list of paths that does, as a witness shows. Since a list
--- may name a path once or often, no set of paths that covers every lead is smaller
+-- ps is a smallest cover: paths that cover every lead, and no list of paths that covers every lead is shorter, as a witness shows.
+-- Since a list may name a path once or often, no set of paths that covers every lead is smaller
 pub record SmallestCover {D : Type 0} (K : Kind D) (N : Net D) (ps : List (List ℕ)) : Type 0 where
   pub paths : AllPaths N ps
   pub covers : CoversAll K N ps

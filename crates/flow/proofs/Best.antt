@@ -12,7 +12,7 @@ use Rattle.flow.proofs.Sums.{sum-cong, sum-add, sum-le, sum-lt, sum-none}
 use Rattle.flow.proofs.Cuts.{cut, arc-inside, leaving-term, not-leaving-term, not-entering-term}
 
 -- with the sink inside, the source outside and nothing that leaves, the total is what enters
-pub total-enters : (T : Table) → Sound T → (f : ℕ → ℕ) → Balanced T f → (R : ℕ → Bool) → R (T .sink) ≡ true → R (T .source) ≡ false →
+total-enters : (T : Table) → Sound T → (f : ℕ → ℕ) → Balanced T f → (R : ℕ → Bool) → R (T .sink) ≡ true → R (T .source) ≡ false →
     ((k : ℕ) → T .arc k ≡ true → R (T .begin k) ≡ true → R (T .end k) ≡ true) → total T f ≡ enter T f R
 total-enters T S f B R i o n =
     let identity = cut T S f B R in
@@ -35,7 +35,7 @@ tight-count T S f B R C =
     go j false q r a b c = refl
 
 -- what is at least 1 at each arc is at least the number of arcs that enter
-pub enter-least : (T : Table) (g : ℕ → ℕ) → ((k : ℕ) → T .arc k ≡ true → 1 ≤ g k) → (R : ℕ → Bool) → enter T (λ k. 1) R ≤ enter T g R
+enter-least : (T : Table) (g : ℕ → ℕ) → ((k : ℕ) → T .arc k ≡ true → 1 ≤ g k) → (R : ℕ → Bool) → enter T (λ k. 1) R ≤ enter T g R
 enter-least T g h R = sum-le (T .places) (λ j. cond (entering T R j) 1 0) (λ j. cond (entering T R j) (g j) 0)
     (λ j l. go (T .arc j) (R (T .begin j)) (R (T .end j)) (g j) (h j))
   where

@@ -35,7 +35,7 @@ chain-count [] k = refl
 chain-count (j ∷ js) k = let rest = chain-count js k in let turn = ap (λ (b : Bool). cond {A = ℕ} b 1 0) (eqb-turn j k) in omega arith
 
 -- f and g differ by a chain: one more along it
-pub chain-shifted : (c : List ℕ) (f g : ℕ → ℕ) → ((k : ℕ) → g k ≡ f k + count-on k c) → Shifted 1 (steps-along c) f g
+chain-shifted : (c : List ℕ) (f g : ℕ → ℕ) → ((k : ℕ) → g k ≡ f k + count-on k c) → Shifted 1 (steps-along c) f g
 chain-shifted c f g h k = omega (arith, h k, chain-count c k, none-against (steps-along c) (chain-along c) k)
 
 -- node numbers rise along a chain, so it has no place twice
@@ -49,7 +49,7 @@ chain-once T S u v c C k =
     falls w (j ∷ js) D = (omega (arith, S .up j (D .0), S .within j (D .0)), falls (T .end j) js (D .2))
 
 -- more along a chain from source to sink: balance both ways, and the total rises by 1
-pub chain-level : (T : Table) → Sound T → (c : List ℕ) → Chain T (T .source) c (T .sink) → (f g : ℕ → ℕ) → ((k : ℕ) → g k ≡ f k + count-on k c) →
+chain-level : (T : Table) → Sound T → (c : List ℕ) → Chain T (T .source) c (T .sink) → (f g : ℕ → ℕ) → ((k : ℕ) → g k ≡ f k + count-on k c) →
     (Balanced T f → Balanced T g) × (Balanced T g → Balanced T f) × (total T g ≡ total T f + 1)
 chain-level T S c C f g h = (
   (λ B v a b. let before = B v a b in inner v a b .0 before),

@@ -36,7 +36,7 @@ pub first-none : (T : Table) (f : ℕ → ℕ) → FirstTo T f 0
 first-none T f g M same b l = omega arith
 
 -- at a place with a settled arc, with load 1, or vacant, one more
-pub first-more : (T : Table) (f : ℕ → ℕ) (k : ℕ) → FirstTo T f k →
+first-more : (T : Table) (f : ℕ → ℕ) (k : ℕ) → FirstTo T f k →
     ((g : ℕ → ℕ) → Loads T g → total T g ≡ total T f → ((j : ℕ) → j < k → g j ≡ f j) → f k ≤ g k) → FirstTo T f (suc k)
 first-more T f k F h g M same b l = ⊎-elim (λ m. F g M same b m) (λ m. here (omega arith)) (cases-lt (b .at) k)
   where

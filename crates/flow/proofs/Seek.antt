@@ -1,12 +1,12 @@
 -- The search, step by step; and from it, that there are best loads.
 use mathlib.Core.Path.{_≡_, refl, sym, ap, subst, _∙_}
-use mathlib.Core.Bool.{Bool, true, false, _&&_, not, cond}
+use mathlib.Core.Bool.{Bool, true, false, _&&_, not, cond, _||_}
 use mathlib.Core.Logic.{_⊎_, inl, inr, ⊎-elim}
 use mathlib.Core.List.{List}
 use Prim.Native.Nat.{ℕ, zero, suc, _+_, _≤_, _<_}
 use native.Mathlib.Omega.{arith}
 use lib.Dec.{eqb, leb}
-use Rattle.std.proofs.shelf.Tests.{cases-bool, cases-eq, cases-lt, both-ways, eqb-true, eq-eqb, ne-eqb, le-leb, leb-true}
+use Rattle.std.proofs.shelf.Tests.{cases-bool, cases-eq, cases-lt, both-ways, eqb-true, eq-eqb, ne-eqb, le-leb, leb-true, and-from, and-parts, not-from-false, not-true, or-cases}
 use Rattle.wiring.specs.Loads.{sum-below}
 use Rattle.flow.specs.Table.{Table, Sound, Joined}
 use Rattle.flow.specs.Loads.{total, Loads, Best, FirstTo, Least, Tight}
@@ -102,75 +102,56 @@ step-within T S s a = go (s .along)
     go true = S .within (s .place) a
     go false = omega (arith, S .within (s .place) a, S .up (s .place) a)
 
+-- the step over j, along its arc or against it, leads out of R
+abbrev step-test : Table → (ℕ → ℕ) → ℕ → (ℕ → Bool) → Bool → ℕ → Bool
+step-test T f low R along j = (T .arc j && leb low j) &&
+    ((R (cond along (T .begin j) (T .end j)) && not (R (cond along (T .end j) (T .begin j)))) && (along || leb 2 (f j)))
+
 -- a step leads out of R, or R is shut
-along-test : Table → ℕ → (ℕ → Bool) → ℕ → Bool
-along-test T low R j = T .arc j && (leb low j && (R (T .begin j) && not (R (T .end j))))
-
-against-test : Table → (ℕ → ℕ) → ℕ → (ℕ → Bool) → ℕ → Bool
-against-test T f low R j = T .arc j && (leb low j && ((R (T .end j) && not (R (T .begin j))) && leb 2 (f j)))
-
-pub opens-or-shut : (T : Table) → Sound T → (f : ℕ → ℕ) (low : ℕ) (R : ℕ → Bool) → ((s : Step) × Opens T f low R s) ⊎ Shut T f low R
-unfolding along-test against-test
-opens-or-shut T S f low R =
-    ⊎-elim (λ none. ⊎-elim (λ nor. inr (shut none nor)) (λ r. inl (against-step (r .0) (r .1 .holds))) (scan (against-test T f low R) (T .places)))
-    (λ r. inl (along-step (r .0) (r .1 .holds))) (scan (along-test T low R) (T .places))
+opens-or-shut : (T : Table) → Sound T → (f : ℕ → ℕ) (low : ℕ) (R : ℕ → Bool) → ((s : Step) × Opens T f low R s) ⊎ Shut T f low R
+opens-or-shut T S f low R = ⊎-elim
+    (λ none. ⊎-elim (λ nor. inr (shut none nor)) (λ r. inl (opens false (r .0) (r .1 .holds))) (scan (step-test T f low R false) (T .places)))
+    (λ r. inl (opens true (r .0) (r .1 .holds)))
+    (scan (step-test T f low R true) (T .places))
   where
-    four : (p q r s : Bool) → (p && (q && (r && not s))) ≡ true → (p ≡ true) × (q ≡ true) × (r ≡ true) × (s ≡ false)
-    four true true true true e = absurd (both-ways false refl e)
-    four true true true false e = (refl, refl, refl, refl)
-    four true true false s e = absurd (both-ways false refl e)
-    four true false r s e = absurd (both-ways false refl e)
-    four false q r s e = absurd (both-ways false refl e)
+    opens : (along : Bool) (j : ℕ) → step-test T f low R along j ≡ true → (s : Step) × Opens T f low R s
+    opens along j h =
+        let from = R (cond along (T .begin j) (T .end j)) in let to = R (cond along (T .end j) (T .begin j)) in
+        let p = and-parts (T .arc j && leb low j) ((from && not to) && (along || leb 2 (f j))) h in
+        let q = and-parts (T .arc j) (leb low j) (p .0) in
+        let r = and-parts (from && not to) (along || leb 2 (f j)) (p .1) in
+        let t = and-parts from (not to) (r .0) in (
+          record { place = j; along = along },
+          record {
+            arc = q .0;
+            above = leb-true low j (q .1);
+            from = t .0;
+            to = not-true to (t .1);
+            free = λ e. ⊎-elim (λ x. absurd (both-ways along e x)) (λ x. leb-true 2 (f j) x) (or-cases along (leb 2 (f j)) (r .1));
+          },
+        )
 
-    five : (p q r s t : Bool) → (p && (q && ((r && not s) && t))) ≡ true → (p ≡ true) × (q ≡ true) × (r ≡ true) × (s ≡ false) × (t ≡ true)
-    five true true true true t e = absurd (both-ways false refl e)
-    five true true true false t e = (refl, refl, refl, refl, e)
-    five true true false s t e = absurd (both-ways false refl e)
-    five true false r s t e = absurd (both-ways false refl e)
-    five false q r s t e = absurd (both-ways false refl e)
+    closed : (p q r s t : Bool) → ((p && q) && ((r && not s) && t)) ≡ false → p ≡ true → q ≡ true → r ≡ true → t ≡ true → s ≡ true
+    closed p q r s t e a b c d = ⊎-elim
+        (λ x. x)
+        (λ x. absurd (both-ways ((p && q) && ((r && not s) && t)) e (and-from (p && q) ((r && not s) && t) (and-from p q a b)
+        (and-from (r && not s) t (and-from r (not s) c (not-from-false s x)) d))))
+        (cases-bool s)
 
-    along-step : (j : ℕ) → along-test T low R j ≡ true → (s : Step) × Opens T f low R s
-    along-step j h =
-        let p = four (T .arc j) (leb low j) (R (T .begin j)) (R (T .end j)) h in
-        (record {
-          place = j;
-          along = true;
-        }, record { arc = p .0; above = leb-true low j (p .1); from = p .2; to = p .3; free = λ e. absurd (both-ways true e refl) })
-
-    against-step : (j : ℕ) → against-test T f low R j ≡ true → (s : Step) × Opens T f low R s
-    against-step j h =
-        let p = five (T .arc j) (leb low j) (R (T .end j)) (R (T .begin j)) (leb 2 (f j)) h in
-        (record { place = j; along = false }, record { arc = p .0; above = leb-true low j (p .1); from = p .2; to = p .3; free = λ e. leb-true 2 (f j) (p .4) })
-
-    shut : ((j : ℕ) → j < T .places → along-test T low R j ≡ false) → ((j : ℕ) → j < T .places → against-test T f low R j ≡ false) → Shut T f low R
-    shut none nor =
-        record {
-          along = λ j l a b. one (T .arc j) (leb low j) (R (T .begin j)) (R (T .end j)) (none j (arc-inside T S j a)) a (le-leb low j l) b;
-          against = λ j l a b t. two (T .arc j) (leb low j) (R (T .end j)) (R (T .begin j)) (leb 2 (f j)) (nor j (arc-inside T S j a)) a (le-leb low j l) b
-              (le-leb 2 (f j) t);
-        }
-      where
-        one : (p q r s : Bool) → (p && (q && (r && not s))) ≡ false → p ≡ true → q ≡ true → r ≡ true → s ≡ true
-        one true true true true e a b c = refl
-        one true true true false e a b c = absurd (both-ways true e refl)
-        one true true false s e a b c = absurd (both-ways false refl c)
-        one true false r s e a b c = absurd (both-ways false refl b)
-        one false q r s e a b c = absurd (both-ways false refl a)
-
-        two : (p q r s t : Bool) → (p && (q && ((r && not s) && t))) ≡ false → p ≡ true → q ≡ true → r ≡ true → t ≡ true → s ≡ true
-        two true true true true t e a b c d = refl
-        two true true true false t e a b c d = absurd (both-ways t e d)
-        two true true false s t e a b c d = absurd (both-ways false refl c)
-        two true false r s t e a b c d = absurd (both-ways false refl b)
-        two false q r s t e a b c d = absurd (both-ways false refl a)
+    shut : ((j : ℕ) → j < T .places → step-test T f low R true j ≡ false) → ((j : ℕ) → j < T .places → step-test T f low R false j ≡ false) → Shut T f low R
+    shut none nor = record {
+      along = λ j l a b. closed (T .arc j) (leb low j) (R (T .begin j)) (R (T .end j)) true (none j (arc-inside T S j a)) a (le-leb low j l) b refl;
+      against = λ j l a b t.
+          closed (T .arc j) (leb low j) (R (T .end j)) (R (T .begin j)) (leb 2 (f j)) (nor j (arc-inside T S j a)) a (le-leb low j l) b (le-leb 2 (f j) t);
+    }
 
 -- the search ends: v is reached by a way, or some shut set has u and not v
-pub record Ended (T : Table) (f : ℕ → ℕ) (low u : ℕ) : Type 0 where
-  pub reached : ℕ → Bool
-  pub depth : ℕ → ℕ
-  pub via : ℕ → Step
-  pub trail : Trail T f low u reached depth via
-  pub shut : Shut T f low reached
+record Ended (T : Table) (f : ℕ → ℕ) (low u : ℕ) : Type 0 where
+  reached : ℕ → Bool
+  depth : ℕ → ℕ
+  via : ℕ → Step
+  trail : Trail T f low u reached depth via
+  shut : Shut T f low reached
 
 search-on : (T : Table) → Sound T → (f : ℕ → ℕ) (low u n : ℕ) (R : ℕ → Bool) (depth : ℕ → ℕ) (via : ℕ → Step) → Trail T f low u R depth via →
     unreached T R < n → Ended T f low u
@@ -183,7 +164,7 @@ search-on T S f low u (suc n) R depth via H l =
     (λ s. record { reached = R; depth = depth; via = via; trail = H; shut = s })
     (opens-or-shut T S f low R)
 
-pub found-or-shut : (T : Table) → Sound T → (f : ℕ → ℕ) (low u v : ℕ) → Found T f low u v ⊎ ((R : ℕ → Bool) × Shut T f low R × (R u ≡ true) × (R v ≡ false))
+found-or-shut : (T : Table) → Sound T → (f : ℕ → ℕ) (low u v : ℕ) → Found T f low u v ⊎ ((R : ℕ → Bool) × Shut T f low R × (R u ≡ true) × (R v ≡ false))
 found-or-shut T S f low u v =
     let e = search-on T S f low u (suc (unreached T (λ w. eqb w u))) (λ w. eqb w u) (λ w. 0) (λ w. back 0) (trail-none T f low u (λ w. 0) (λ w. back 0))
         (omega arith) in
@@ -191,7 +172,7 @@ found-or-shut T S f low u v =
         (cases-bool (e .reached v))
 
 -- loads of the least total
-pub least-exist : (T : Table) → Sound T → (n : ℕ) (f : ℕ → ℕ) → Loads T f → total T f < n → (g : ℕ → ℕ) × Loads T g × Least T g
+least-exist : (T : Table) → Sound T → (n : ℕ) (f : ℕ → ℕ) → Loads T f → total T f < n → (g : ℕ → ℕ) × Loads T g × Least T g
 least-exist T S zero f L l = absurd (omega arith)
 least-exist T S (suc n) f L l =
     ⊎-elim (λ w. again (least-exist T S n) (w .steps) (reduce-total T S f L w 1 (omega arith)))
@@ -203,10 +184,10 @@ least-exist T S (suc n) f L l =
     again rest ss r = rest (shifted (r .0) ss f) (r .2) (omega (arith, r .1, r .3))
 
 -- loads of the least total, with no others before them by a difference below n
-pub record Ordered (T : Table) (f : ℕ → ℕ) (n : ℕ) : Type 0 where
-  pub loads : Loads T f
-  pub least : Least T f
-  pub first : FirstTo T f n
+record Ordered (T : Table) (f : ℕ → ℕ) (n : ℕ) : Type 0 where
+  loads : Loads T f
+  least : Least T f
+  first : FirstTo T f n
 
 -- what is taken from an arc and put along a way
 lower : (T : Table) → Sound T → (f : ℕ → ℕ) → Loads T f → (k : ℕ) → T .arc k ≡ true → 2 ≤ f k → (w : Found T f (suc k) (T .begin k) (T .end k)) →
@@ -245,7 +226,7 @@ settle T S k (suc n) f O l = go (settle T S k n) (T .arc k) refl
             }) (omega (arith, r .4))
 
 -- best loads of a table in which some loads are
-pub best-exist : (T : Table) → Sound T → (f : ℕ → ℕ) → Loads T f → (g : ℕ → ℕ) × Best T g
+best-exist : (T : Table) → Sound T → (f : ℕ → ℕ) → Loads T f → (g : ℕ → ℕ) × Best T g
 best-exist T S f L = let r = upto (T .places) in (r .0, first-all T S (r .0) (r .1 .loads) (r .1 .least) (r .1 .first))
   where
     upto : (n : ℕ) → (g : ℕ → ℕ) × Ordered T g n

@@ -10,17 +10,17 @@ use Rattle.std.specs.shelf.Lists.{All}
 use Rattle.std.proofs.shelf.Tests.{cases-order, both-ways, eqb-true, eq-eqb, ne-eqb}
 use Rattle.std.proofs.shelf.Elements.{all-weaker}
 use Rattle.flow.specs.Table.{Table, Sound}
-use Rattle.flow.specs.Loads.{total, Loads}
+use Rattle.flow.specs.Loads.{total, Loads, Balanced}
 use Rattle.flow.specs.Ways.{Step, Way, step-from, step-to, along-count, against-count, Shifted, shifted, Once, Slack, Falls, back}
 use Rattle.flow.proofs.Ways.{shift-round, shift-down}
 
 -- a way steps on arcs only
-pub way-arcs : (T : Table) (u v : ℕ) (ss : List Step) → Way T u ss v → All (λ s. T .arc (s .place) ≡ true) ss
+way-arcs : (T : Table) (u v : ℕ) (ss : List Step) → Way T u ss v → All (λ s. T .arc (s .place) ≡ true) ss
 way-arcs T u v [] e = tt
 way-arcs T u v (s ∷ ss) W = (W .0, way-arcs T (step-to T s) v ss (W .2))
 
 -- a place that no step has is not counted
-pub not-counted : (ss : List Step) (k : ℕ) → All (λ s. s .place ≡ k → ⊥) ss → (along-count ss k ≡ 0) × (against-count ss k ≡ 0)
+not-counted : (ss : List Step) (k : ℕ) → All (λ s. s .place ≡ k → ⊥) ss → (along-count ss k ≡ 0) × (against-count ss k ≡ 0)
 not-counted [] k h = (refl, refl)
 not-counted (s ∷ ss) k h =
     let rest = not-counted ss k (h .1) in
@@ -38,7 +38,7 @@ vacant-not-counted T u v ss W k e =
         (λ s a q. both-ways (T .arc k) e (subst (λ (x : ℕ). T .arc x ≡ true) q a)) ss (way-arcs T u v ss W))
 
 -- where a step goes against k there is slack
-pub slack-at : (d : ℕ) (f : ℕ → ℕ) (ss : List Step) → All (Slack d f) ss → (k : ℕ) → 1 ≤ against-count ss k → d + 1 ≤ f k
+slack-at : (d : ℕ) (f : ℕ → ℕ) (ss : List Step) → All (Slack d f) ss → (k : ℕ) → 1 ≤ against-count ss k → d + 1 ≤ f k
 slack-at d f [] h k l = absurd (omega arith)
 slack-at d f (s ∷ ss) h k l = go (s .along) (eqb (s .place) k) refl refl l (slack-at d f ss (h .1) k)
   where
@@ -49,7 +49,7 @@ slack-at d f (s ∷ ss) h k l = go (s .along) (eqb (s .place) k) refl refl l (sl
     go false false p q m later = later (omega arith)
 
 -- loads stay at least 1
-pub shift-arcs : (d : ℕ) (ss : List Step) (f g : ℕ → ℕ) → Shifted d ss f g → Once ss → All (Slack d f) ss → (k : ℕ) → 1 ≤ f k → 1 ≤ g k
+shift-arcs : (d : ℕ) (ss : List Step) (f g : ℕ → ℕ) → Shifted d ss f g → Once ss → All (Slack d f) ss → (k : ℕ) → 1 ≤ f k → 1 ≤ g k
 shift-arcs d ss f g h o a k l = ⊎-elim one (⊎-elim none more) (cases-order (against-count ss k) 1)
   where
     one : against-count ss k ≡ 1 → 1 ≤ g k
@@ -68,7 +68,7 @@ shift-arcs d ss f g h o a k l = ⊎-elim one (⊎-elim none more) (cases-order (
     more m = omega (arith, o k)
 
 -- vacant places keep nothing
-pub shift-vacant : (T : Table) (u v d : ℕ) (ss : List Step) → Way T u ss v → (f g : ℕ → ℕ) → Shifted d ss f g → (k : ℕ) → T .arc k ≡ false → f k ≡ 0 → g k ≡ 0
+shift-vacant : (T : Table) (u v d : ℕ) (ss : List Step) → Way T u ss v → (f g : ℕ → ℕ) → Shifted d ss f g → (k : ℕ) → T .arc k ≡ false → f k ≡ 0 → g k ≡ 0
 shift-vacant T u v d ss W f g h k e z =
     let nowhere = vacant-not-counted T u v ss W k e in
     let more = ap (λ (x : ℕ). d * x) (nowhere .0) in
@@ -83,31 +83,26 @@ shift-keeps d ss f g h k a =
     let less = ap (λ (x : ℕ). d * x) (nowhere .1) in
     omega (arith, h k)
 
--- round a closed way loads stay loads of the same total
-pub loads-round : (T : Table) → Sound T → (u d : ℕ) (ss : List Step) → Way T u ss u → (f g : ℕ → ℕ) → Shifted d ss f g → Once ss → All (Slack d f) ss →
+-- with slack, what is shifted stays loads, if it stays balanced
+loads-shifted : (T : Table) (u v d : ℕ) (ss : List Step) → Way T u ss v → (f g : ℕ → ℕ) → Shifted d ss f g → Once ss → All (Slack d f) ss →
+    Loads T f → Balanced T g → Loads T g
+loads-shifted T u v d ss W f g h o a L B = record {
+  arcs = λ k e. shift-arcs d ss f g h o a k (L .arcs k e);
+  vacant = λ k e. shift-vacant T u v d ss W f g h k e (L .vacant k e);
+  balanced = B;
+}
+
+-- round a closed way the total stays
+loads-round : (T : Table) → Sound T → (u d : ℕ) (ss : List Step) → Way T u ss u → (f g : ℕ → ℕ) → Shifted d ss f g → Once ss → All (Slack d f) ss →
     Loads T f → Loads T g × (total T g ≡ total T f)
 loads-round T S u d ss W f g h o a L =
-    let both = shift-round T S u d ss W f g h (L .balanced) in (
-      record {
-        arcs = λ k e. shift-arcs d ss f g h o a k (L .arcs k e);
-        vacant = λ k e. shift-vacant T u u d ss W f g h k e (L .vacant k e);
-        balanced = both .0;
-      },
-      both .1,
-    )
+    let both = shift-round T S u d ss W f g h (L .balanced) in (loads-shifted T u u d ss W f g h o a L (both .0), both .1)
 
--- from the sink to the source loads stay loads, and the total falls by d
+-- from the sink to the source the total falls by d
 pub loads-down : (T : Table) → Sound T → (d : ℕ) (ss : List Step) → Way T (T .sink) ss (T .source) → (f g : ℕ → ℕ) → Shifted d ss f g → Once ss →
     All (Slack d f) ss → Loads T f → Loads T g × (total T g + d ≡ total T f)
 loads-down T S d ss W f g h o a L =
-    let both = shift-down T S d ss W f g h (L .balanced) in (
-      record {
-        arcs = λ k e. shift-arcs d ss f g h o a k (L .arcs k e);
-        vacant = λ k e. shift-vacant T (T .sink) (T .source) d ss W f g h k e (L .vacant k e);
-        balanced = both .0;
-      },
-      both .1,
-    )
+    let both = shift-down T S d ss W f g h (L .balanced) in (loads-shifted T (T .sink) (T .source) d ss W f g h o a L (both .0), both .1)
 
 -- one more step, below all the others
 pub once-more : (k : ℕ) (ss : List Step) → Once ss → All (λ s. k < s .place) ss → Once (back k ∷ ss)

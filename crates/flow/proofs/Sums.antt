@@ -19,7 +19,7 @@ pub sum-add : (n : ℕ) (f g : ℕ → ℕ) → sum-below n (λ k. f k + g k) �
 sum-add zero f g = refl
 sum-add (suc n) f g = let below = sum-add n f g in omega arith
 
-pub sum-times : (n c : ℕ) (f : ℕ → ℕ) → sum-below n (λ k. c * f k) ≡ c * sum-below n f
+sum-times : (n c : ℕ) (f : ℕ → ℕ) → sum-below n (λ k. c * f k) ≡ c * sum-below n f
 sum-times zero c f = omega arith
 sum-times (suc n) c f = let below = sum-times n c f in omega arith
 
@@ -45,7 +45,7 @@ sum-none (suc n) f h =
     let here = h n (omega arith) in
     omega arith
 
-pub sum-exchange : (m n : ℕ) (h : ℕ → ℕ → ℕ) → sum-below m (λ i. sum-below n (λ j. h i j)) ≡ sum-below n (λ j. sum-below m (λ i. h i j))
+sum-exchange : (m n : ℕ) (h : ℕ → ℕ → ℕ) → sum-below m (λ i. sum-below n (λ j. h i j)) ≡ sum-below n (λ j. sum-below m (λ i. h i j))
 sum-exchange zero n h = sym (sum-none n (λ j. 0) (λ k l. refl))
 sum-exchange (suc m) n h =
     let below = sum-exchange m n h in
@@ -131,7 +131,7 @@ where-times n P c f =
     at false x = omega arith
 
 -- a test outside a sum goes in
-pub sum-under : (n : ℕ) (b : Bool) (f : ℕ → ℕ) → cond b (sum-below n f) 0 ≡ sum-below n (λ k. cond b (f k) 0)
+sum-under : (n : ℕ) (b : Bool) (f : ℕ → ℕ) → cond b (sum-below n f) 0 ≡ sum-below n (λ k. cond b (f k) 0)
 sum-under n true f = refl
 sum-under n false f = sym (sum-none n (λ k. 0) (λ k l. refl))
 
@@ -182,7 +182,7 @@ sum-lt (suc n) c f g l h s =
         omega arith
 
 -- a sum that is not zero has a term that is not
-pub sum-some : (n : ℕ) (f : ℕ → ℕ) → 1 ≤ sum-below n f → (k : ℕ) × (k < n) × (1 ≤ f k)
+sum-some : (n : ℕ) (f : ℕ → ℕ) → 1 ≤ sum-below n f → (k : ℕ) × (k < n) × (1 ≤ f k)
 sum-some zero f h = absurd (omega arith)
 sum-some (suc n) f h = ⊎-elim (λ (e : 0 ≡ f n). earlier (sum-some n f (omega arith)))
     (⊎-elim (λ l. (n, omega arith, omega arith)) (λ l. absurd (omega arith))) (cases-order 0 (f n))

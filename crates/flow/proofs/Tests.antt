@@ -2,22 +2,17 @@
 use mathlib.Core.Path.{_≡_, refl, sym, subst, _∙_}
 use mathlib.Core.Bool.{Bool, true, false, _&&_, _||_, not, cond}
 use mathlib.Core.Logic.{_⊎_, inl, inr, ⊎-elim}
-use Prim.Native.Nat.{ℕ, zero, suc, _≤_, _<_}
+use Prim.Native.Nat.{ℕ, _≤_, _<_}
 use native.Mathlib.Omega.{arith}
 use lib.Dec.{eqb, leb}
 use Rattle.std.proofs.shelf.Tests.{cases-lt, both-ways, eqb-true, leb-true, and-parts, or-cases, not-true}
 use Rattle.wiring.specs.Net.{all-below}
+use Rattle.wiring.proofs.Ends.{all-below-at}
 use Rattle.flow.specs.Table.{Table, Sound}
 use Rattle.flow.specs.Loads.{out-of, into, Loads, Best, Tight, Settled}
 use Rattle.flow.specs.Tests.{loads-test, keeps, tight-test, settled-test, best-test}
 use Rattle.flow.proofs.Cuts.{arc-inside, none-at}
 use Rattle.flow.proofs.Best.{best-by-cuts}
-
-pub all-below-at : (n : ℕ) (P : ℕ → Bool) → all-below n P ≡ true → (k : ℕ) → k < n → P k ≡ true
-all-below-at zero P h k l = absurd (omega arith)
-all-below-at (suc n) P h k l =
-    let parts = and-parts (P n) (all-below n P) h in
-    ⊎-elim (λ m. all-below-at n P (parts .1) k m) (λ m. subst (λ (x : ℕ). P x ≡ true) (omega arith) (parts .0)) (cases-lt k n)
 
 -- a test that holds unless there is no arc
 arc-part : (a x : Bool) → (not a || x) ≡ true → a ≡ true → x ≡ true
@@ -30,7 +25,7 @@ past-nodes T S f v l =
     none-at T (T .end) v f (λ k a e. omega (arith, S .within k a))
     ∙ sym (none-at T (T .begin) v f (λ k a e. omega (arith, S .within k a, S .up k a)))
 
-pub loads-by-test : (T : Table) → Sound T → (f : ℕ → ℕ) → ((k : ℕ) → T .places ≤ k → f k ≡ 0) → loads-test T f ≡ true → Loads T f
+loads-by-test : (T : Table) → Sound T → (f : ℕ → ℕ) → ((k : ℕ) → T .places ≤ k → f k ≡ 0) → loads-test T f ≡ true → Loads T f
 loads-by-test T S f past h =
     record {
       arcs = λ k a. ⊎-elim (λ l. some k a (at k l)) (λ l. absurd (both-ways (T .arc k) (S .past k l) a)) (cases-lt k (T .places));
@@ -80,7 +75,7 @@ keeps-one T f R k h a b c =
     go false true e h b c = h
     go false false e h b c = absurd (both-ways false refl c)
 
-pub tight-by-test : (T : Table) → Sound T → (f : ℕ → ℕ) (R : ℕ → Bool) → tight-test T f R ≡ true → Tight T f R
+tight-by-test : (T : Table) → Sound T → (f : ℕ → ℕ) (R : ℕ → Bool) → tight-test T f R ≡ true → Tight T f R
 tight-by-test T S f R h =
     let parts = and-parts (R (T .sink) && not (R (T .source))) (all-below (T .places) (keeps T f R)) h in
     let ends-are = and-parts (R (T .sink)) (not (R (T .source))) (parts .0) in
@@ -91,7 +86,7 @@ tight-by-test T S f R h =
       one-enters = λ k a b c. keeps-one T f R k (all-below-at (T .places) (keeps T f R) (parts .1) k (arc-inside T S k a)) a b c;
     }
 
-pub settled-by-test : (T : Table) → Sound T → (f : ℕ → ℕ) (k : ℕ) (R : ℕ → Bool) → settled-test T f k R ≡ true → Settled T f k R
+settled-by-test : (T : Table) → Sound T → (f : ℕ → ℕ) (k : ℕ) (R : ℕ → Bool) → settled-test T f k R ≡ true → Settled T f k R
 settled-by-test T S f k R h =
     record {
       begin-in = and-parts (R (T .begin k)) (not (R (T .end k))) (parts .0) .0;

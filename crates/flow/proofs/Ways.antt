@@ -13,7 +13,7 @@ use Rattle.flow.proofs.Sums.{unit-at, unit-off, where-add, where-cong, where-t
 use Rattle.flow.proofs.Cuts.{arc-inside, none-into-source}
 
 -- along a way, what the steps bring to a node and take from it telescopes
-pub way-level : (T : Table) → Sound T → (u v : ℕ) (ss : List Step) → Way T u ss v → (w : ℕ) →
+way-level : (T : Table) → Sound T → (u v : ℕ) (ss : List Step) → Way T u ss v → (w : ℕ) →
     into T (along-count ss) w + out-of T (against-count ss) w + cond (eqb u w) 1 0 ≡ out-of T (along-count ss) w + into T (against-count ss) w + cond
         (eqb v w) 1 0
 way-level T S u v [] e w =

@@ -5,13 +5,13 @@ use mathlib.Core.Bool.{Bool, true, false, not}
 use Prim.Native.Nat.{ℕ, _≤_, _<_}
 use native.Mathlib.Omega.{arith}
 use Rattle.std.proofs.shelf.Tests.{cases-lt, both-ways, and-parts, and-from, not-true, not-from-false, eqb-true, eq-eqb}
-use Rattle.std.proofs.shelf.Ways.{decides-below-or}
+use Rattle.std.proofs.shelf.Ways.{decides-below-or, decides-below-and}
 use Rattle.std.specs.Orderings.{Decides}
 use Rattle.std.specs.declared.option.Option.{Option}
 use Rattle.std.specs.declared.option.Option.the-variants.{Some, None}
 use Rattle.wiring.specs.declared.Lead.{Lead}
 use Rattle.delay.specs.Kind.{Kind}
-use Rattle.wiring.specs.Net.{Net, Holds, Sound, tail-is, head-is, leaves, enters, some-below, hasIn, hasOut, isInput, isOutput, isInner, isBare}
+use Rattle.wiring.specs.Net.{Net, Holds, Sound, tail-is, head-is, leaves, enters, some-below, all-below, hasIn, hasOut, isInput, isOutput, isInner, isBare}
 
 -- a lead into v
 pub record LeadIn {D : Type 0} (N : Net D) (v : ℕ) : Type 0 where
@@ -30,6 +30,10 @@ pub record LeadOut {D : Type 0} (N : Net D) (v : ℕ) : Type 0 where
 -- some number below n passes a test
 pub some-below-decides : (P : ℕ → Bool) (n : ℕ) → Decides (some-below n P) ((k : ℕ) × (k < n) × (P k ≡ true))
 some-below-decides P n = decides-below-or P (λ k. P k ≡ true) (λ m. some-below m P) (λ k. (λ e. e, λ e. e)) refl (λ _. refl) n
+
+-- all numbers below n pass a test
+pub all-below-at : (n : ℕ) (P : ℕ → Bool) → all-below n P ≡ true → (k : ℕ) → k < n → P k ≡ true
+all-below-at n P e = decides-below-and P (λ k. P k ≡ true) (λ m. all-below m P) (λ k. (λ x. x, λ x. x)) refl (λ _. refl) n .0 e
 
 -- a lead whose head, or whose tail, is v
 pub head-from : {D : Type 0} (v : ℕ) (o : Option (Lead D)) → head-is v o ≡ true → (l : Lead D) × (o ≡ Some l) × (l .head ≡ v)
