@@ -1,7 +1,6 @@
 -- The wirings that break two rules at once are refused as the table says, and so are the rows of small wirings.
-use mathlib.Core.Path.{_≡_, refl, sym, ap, subst, _∙_}
+use mathlib.Core.Path.{_≡_, refl, ap, subst, _∙_}
 use mathlib.Core.Logic.{inl, inr}
-use mathlib.Core.Bool.{true}
 use mathlib.Core.List.{List, [], _∷_}
 use Prim.Native.Nat.{ℕ, zero, suc, _≤_, _<_}
 use native.Mathlib.Omega.{arith}
@@ -19,7 +18,7 @@ use Rattle.wiring.specs.Lists.{words}
 use Rattle.wiring.specs.declared.refusals.Refusal.the-variants.{Size, Room}
 use Rattle.lengths.specs.declared.check.Fault.{Fault}
 use Rattle.lengths.specs.declared.check.Fault.the-variants as fault
-use Rattle.lengths.specs.Check.{Sized, Keeps, Breaks, KeepsBelow, Finds, refusal-of}
+use Rattle.lengths.specs.Check.{Sized, Keeps, Breaks, KeepsBelow, refusal-of}
 use Rattle.lengths.proofs.Checks.{sound-if-all, finds-first}
 use Rattle.drawing.specs.Rows.{wired, Gives}
 use Rattle.drawing.proofs.Rows.{rows-are-given}
@@ -73,15 +72,31 @@ vacant-first ls (suc j) i = absurd (omega arith)
 pub orders-stand : Orders-stand
 orders-stand = (
   large _ _ (lit< tt),
-  (wide _ _ (lit< tt),
-  (large _ _ (lit< tt),
-  (bad-at _ _ (fault.Ends 0) 0 (lead 2 2 0) (lit< tt) (lit< tt) refl (refl, λ o. omega (arith, o .0)) (λ j i. absurd (omega arith)),
-  (bad-at _ _ (fault.Ends 0) 0 (lead 2 2 0) (lit< tt) (lit< tt) refl (refl, λ o. omega (arith, o .0)) (λ j i. absurd (omega arith)),
-  (bad-at _ _ (fault.Ends 0) 0 (lead 1 1 1000001) (lit< tt) (lit< tt) refl (refl, λ o. omega (arith, o .0)) (λ j i. absurd (omega arith)),
-  (bad-at _ _ (fault.Ends 0) 0 (lead 0 2 1000001) (lit< tt) (lit< tt) refl (refl, λ o. omega (arith, o .1)) (λ j i. absurd (omega arith)),
-  (bad-at _ _ (fault.Delay 0) 0 (lead 0 1 1000001) (lit< tt) (lit< tt) refl (refl, (lit< tt, lit< tt), refl) (λ j i. absurd (omega arith)),
-  (bad-at _ _ (fault.Delay 1) 1 (lead 0 1 1000001) (lit< tt) (lit< tt) refl (refl, (lit< tt, lit< tt), refl) (vacant-first (Some (lead 0 1 1000001) ∷ Some (lead 1 1 0) ∷ [])),
-  (one-good _ (lead 0 1 1000000) (lit< tt) ((lit< tt, lit< tt), refl), tt))))))))),
+  (
+    wide _ _ (lit< tt),
+    (
+      large _ _ (lit< tt),
+      (
+        bad-at _ _ (fault.Ends 0) 0 (lead 2 2 0) (lit< tt) (lit< tt) refl (refl, λ o. omega (arith, o .0)) (λ j i. absurd (omega arith)),
+        (
+          bad-at _ _ (fault.Ends 0) 0 (lead 2 2 0) (lit< tt) (lit< tt) refl (refl, λ o. omega (arith, o .0)) (λ j i. absurd (omega arith)),
+          (
+            bad-at _ _ (fault.Ends 0) 0 (lead 1 1 1000001) (lit< tt) (lit< tt) refl (refl, λ o. omega (arith, o .0)) (λ j i. absurd (omega arith)),
+            (
+              bad-at _ _ (fault.Ends 0) 0 (lead 0 2 1000001) (lit< tt) (lit< tt) refl (refl, λ o. omega (arith, o .1)) (λ j i. absurd (omega arith)),
+              (
+                bad-at _ _ (fault.Delay 0) 0 (lead 0 1 1000001) (lit< tt) (lit< tt) refl (refl, (lit< tt, lit< tt), refl) (λ j i. absurd (omega arith)),
+                (
+                  bad-at _ _ (fault.Delay 1) 1 (lead 0 1 1000001) (lit< tt) (lit< tt) refl (refl, (lit< tt, lit< tt), refl) (vacant-first (Some (lead 0 1 1000001) ∷ Some (lead 1 1 0) ∷ [])),
+                  (one-good _ (lead 0 1 1000000) (lit< tt) ((lit< tt, lit< tt), refl), tt),
+                ),
+              ),
+            ),
+          ),
+        ),
+      ),
+    ),
+  ),
 )
 
 -- the list 1 0 has one path
@@ -109,11 +124,19 @@ room-stands = record {
   more = λ c C. accepts (room 9 9 9 9 4 9) c (enough 9 9 9 9 4 9 (lit≤ tt) (lit≤ tt) (lit≤ tt) (lit≤ tt) (lit≤ tt) (lit≤ tt)) C;
   less = (
     short (room 1 2 1 3 2 1) (short-table (to-table (lit< tt))),
-    (short (room 2 1 1 3 2 1) (short-table (from-table (lit< tt))),
-    (short (room 2 2 0 3 2 1) (short-table (load-table (lit< tt))),
-    (short (room 2 2 1 2 2 1) (short-table (mark-table (lit< tt))),
-    (short (room 2 2 1 3 1 1) (word-row (row-gives .paths) (row-gives .list) (omega (arith, ap length (row-gives .words-are)))),
-    (short (room 2 2 1 3 2 0) (witness-row (row-gives .paths) (row-gives .list) (omega (arith, number))), tt))))),
+    (
+      short (room 2 1 1 3 2 1) (short-table (from-table (lit< tt))),
+      (
+        short (room 2 2 0 3 2 1) (short-table (load-table (lit< tt))),
+        (
+          short (room 2 2 1 2 2 1) (short-table (mark-table (lit< tt))),
+          (
+            short (room 2 2 1 3 1 1) (word-row (row-gives .paths) (row-gives .list) (omega (arith, ap length (row-gives .words-are)))),
+            (short (room 2 2 1 3 2 0) (witness-row (row-gives .paths) (row-gives .list) (omega (arith, number))), tt),
+          ),
+        ),
+      ),
+    ),
   );
 }
   where

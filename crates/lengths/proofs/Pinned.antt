@@ -1,8 +1,7 @@
 -- A wiring is sound or has a fault, never both, and one fault only.
 use mathlib.Core.Path.{_≡_, refl, sym, ap, subst, _∙_}
-use mathlib.Core.Bool.{true, false}
 use mathlib.Core.Logic.{_⊎_, inl, inr, ⊎-elim}
-use Prim.Native.Nat.{ℕ, zero, suc, _≤_, _<_}
+use Prim.Native.Nat.{ℕ, zero, suc, _<_}
 use native.Mathlib.Omega.{arith}
 use Rattle.std.proofs.shelf.Tests.{cases-bool, cases-lt, both-ways}
 use Rattle.std.specs.declared.option.Option.{Option}
@@ -13,7 +12,7 @@ use Rattle.wiring.specs.Net.{Net, Holds, Sound}
 use Rattle.wiring.proofs.Ends.{one-lead}
 use Rattle.lengths.specs.declared.check.Fault.{Fault}
 use Rattle.lengths.specs.declared.check.Fault.the-variants.{Size, Ends, Delay}
-use Rattle.lengths.specs.Check.{Sized, EndsRight, Keeps, Breaks, KeepsBelow, FirstFault, Finds}
+use Rattle.lengths.specs.Check.{Sized, Keeps, Breaks, KeepsBelow, FirstFault, Finds}
 use Rattle.lengths.proofs.Checks.{sound-if-all, finds-first}
 
 module _ {D : Type 0} (K : Kind D) (N : Net D) where

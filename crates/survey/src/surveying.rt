@@ -1,15 +1,10 @@
 //! Makes the survey of a wiring.
 ghost use mathlib.Core.Path.{_≡_};
-ghost use Prim.Native.Nat.{_≤_};
-ghost use lib.ListN.{length};
-ghost use denote.Ref.{name};
-ghost use Rattle.std.specs.declared.result.Result.the-variants.{Ok, Err};
+ghost use Rattle.std.specs.declared.result.Result.the-variants.{Ok};
 ghost use Rattle.std.specs.Of.Vec.{vec-items, vec-len};
 ghost use Rattle.std.specs.Vec.{made};
-ghost use Rattle.wiring.specs.Net.{Sound};
-ghost use Rattle.lengths.specs.Check.{NotFilled};
 ghost use Rattle.lengths.specs.Tables.{entry};
-ghost use Rattle.lengths.specs.Asked.{Filled, LongestOf};
+ghost use Rattle.lengths.specs.Asked.{Filled};
 ghost use Rattle.survey.specs.Surveyed.{NodeTold, PlaceTold, Rows, Surveyed};
 use crate::LeadRow;
 use crate::NodeRow;

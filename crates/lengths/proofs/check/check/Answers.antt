@@ -20,7 +20,7 @@ returns-in-Some g c =
     let b = c .in-Some .ensures tt in
     let same = c .nodes-nodes .ensures in
     let F : Finds K N (c .in-Some .fault) = finds-first K N few (c .loop-place .place) (c .loop-place .inv) (c .in-Some .fault)
-        (b .0, sym (c .lead .ensures) ∙ b .1, subst (λ n. Breaks K n (c .loop-place .place) (b .0) (c .in-Some .fault)) same (b .2)) in
+    (b .0, sym (c .lead .ensures) ∙ b .1, subst (λ n. Breaks K n (c .loop-place .place) (b .0) (c .in-Some .fault)) same (b .2)) in
     record { found = F; fault = λ f h. ap (λ x. Err x) (finds-one K N (c .in-Some .fault) f F h); none = λ S. absurd (sound-finds-none K N S (c .in-Some .fault) F) }
 
 pub returns : need.returns
