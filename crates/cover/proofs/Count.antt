@@ -139,7 +139,7 @@ module _ {D : Type 0} {K : Kind D} (L : Laws K) {N : Net D} (S : Sound K N) {to 
       (λ e. let s = some-below-decides (λ k. Q k && c k) (N .places) .0 e in let a = and-parts (Q (s .0)) (c (s .0)) (s .2) in (s .0, a .0, C (s .0) .0 (a .1))),
       λ g. let l = on-lead S P (g .2 .through) in
           some-below-decides (λ k. Q k && c k) (N .places) .1
-              (g .0, below-places N (g .0) (l .0) (l .1), and-from (Q (g .0)) (c (g .0)) (g .1) (C (g .0) .1 (g .2))),
+          (g .0, below-places N (g .0) (l .0) (l .1), and-from (Q (g .0)) (c (g .0)) (g .1) (C (g .0) .1 (g .2))),
     )
 
     -- along the path, to the covered lead ahead and to the one behind
@@ -156,14 +156,14 @@ module _ {D : Type 0} {K : Kind D} (L : Laws K) {N : Net D} (S : Sound K N) {to 
     one-balanced v i =
         count-one (N .places) (fed-in N m v) c
         (λ j k x a y b. enter-once S v P (C j .0 a .through) (C k .0 b .through) (and-parts (enters N v j) (m j .1) x .0)
-            (and-parts (enters N v k) (m k .1) y .0))
+        (and-parts (enters N v k) (m k .1) y .0))
         ∙ ap (λ (b : Bool). cond {A = ℕ} b 1 0)
         (same-from-decides (some-below (N .places) (λ k. fed-in N m v k && c k)) (some-below (N .places) (λ k. drain-out N m v k && c k))
         (decides-like (some-below (N .places) (λ k. fed-in N m v k && c k)) (met-out v i) (met-in v i) (met-decides (fed-in N m v)))
-            (met-decides (drain-out N m v)))
+        (met-decides (drain-out N m v)))
         ∙ sym (count-one (N .places) (drain-out N m v) c
         (λ j k x a y b. leave-once S v P (C j .0 a .through) (C k .0 b .through) (and-parts (leaves N v j) (m j .0) x .0)
-            (and-parts (leaves N v k) (m k .0) y .0)))
+        (and-parts (leaves N v k) (m k .0) y .0)))
 
     -- and has one start lead at most
     one-total : total-load N m (λ k. cond (c k) 1 0) ≤ 1

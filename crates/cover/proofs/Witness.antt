@@ -49,7 +49,7 @@ module _ {D : Type 0} {K : Kind D} (L : Laws K) {N : Net D} (S : Sound K N) {to 
         let lead = run-split [] (cut-path pre (V .path) .through .after) .holds in
         let whole = sym (append-assoc pre (k ∷ []) (i ∷ (mid ++ (j ∷ post)))) in
         stays (pre ++ (k ∷ [])) mid post (subst (λ (x : List ℕ). Covers K N x i) whole next) (subst (λ (x : List ℕ). Covers K N x j) whole U)
-            (none-leaves i (ap stands lead) here)
+        (none-leaves i (ap stands lead) here)
 
     entering-parts : (k : ℕ) → flow.entering (arcs-of N m) R k ≡ true →
         (isLead N k ≡ true) × (R (arcs-of N m .begin k) ≡ false) × (R (arcs-of N m .end k) ≡ true)
@@ -65,10 +65,10 @@ module _ {D : Type 0} {K : Kind D} (L : Laws K) {N : Net D} (S : Sound K N) {to 
         (λ o. absurd (⊎-elim
         (λ o. both-ways (R (arcs-of N m .begin j)) (entering-parts j b .1)
         (stays (o .pre) (o .mid) (o .post) (subst (λ (x : List ℕ). Covers K N x k) (o .is) V) (subst (λ (x : List ℕ). Covers K N x j) (o .is) U)
-            (entering-parts k a .2)))
+        (entering-parts k a .2)))
         (λ o. both-ways (R (arcs-of N m .begin k)) (entering-parts k a .1)
         (stays (o .pre) (o .mid) (o .post) (subst (λ (x : List ℕ). Covers K N x j) (o .is) U) (subst (λ (x : List ℕ). Covers K N x k) (o .is) V)
-            (entering-parts j b .2)))
+        (entering-parts j b .2)))
         o))
         (which-first k j p (V .through) (U .through))
 

@@ -43,12 +43,15 @@ module _ {D : Type 0} {K : Kind D} (L : Laws K) {N : Net D} (S : Sound K N) {to 
       let o : hasOut N v ≡ true = ⊎-elim (λ q. absurd (both-ways (hasIn N v) q i)) (λ q. not-false (hasOut N v) q) (and-cases (hasIn N v) (not (hasOut N v)) e) in
       let d = local-from L S from (T .from-is) .met v o in
       let f = Y .drains (d .place) (ap stands (d .holds)) .1
-          (sums-drains L S from (T .from-is) (d .place) (d .lead) (d .holds) (d .sums ∙ ap from (sym (d .begins)))) in
+      (sums-drains L S from (T .from-is) (d .place) (d .lead) (d .holds) (d .sums ∙ ap from (sym (d .begins)))) in
       let w = lowest (drain-out N m v) (d .place) (out-from N m v (d .place) (record { lead = d .lead; holds = d .holds; begins = d .begins; drains = f })) in
       let j = w .0 in
-      let p = out-parts N m v j (w .1 .holds) in let t = head-of N j (p .lead) (p .holds) in
-      (j, w .1, has-in N j (p .lead) (headAt N j) (p .holds) (sym t),
-      omega (arith, S .upwards j (p .lead) (p .holds), p .begins, in-inside S v i))
+      let p = out-parts N m v j (w .1 .holds) in let t = head-of N j (p .lead) (p .holds) in (
+        j,
+        w .1,
+        has-in N j (p .lead) (headAt N j) (p .holds) (sym t),
+        omega (arith, S .upwards j (p .lead) (p .holds), p .begins, in-inside S v i),
+      )
 
   -- so from every such node one comes back to an input, and on to an output
   pub behind-exists : (v : ℕ) → hasOut N v ≡ true → (js : List ℕ) × (u : ℕ) × Walk (backwards N m) v js u
@@ -67,9 +70,12 @@ module _ {D : Type 0} {K : Kind D} (L : Laws K) {N : Net D} (S : Sound K N) {to 
     onward-exists : (k : ℕ) → Goes k → (js : List ℕ) × (stop : ℕ) × Walk (onwards N m left) k js stop × Goes stop
     onward-exists = walk-exists (onwards N m left) Goes (λ k. N .nodes - headAt N k) (λ k G e.
         let q = next-lead S m left B k (G .lead) (G .holds) (G .some) e in
-        let g = goes-parts N m left (headAt N k) (q .0) (q .1) in let o = g .0 in
-        (q .0, q .1, record { lead = o .lead; holds = o .holds; some = g .1 },
-        omega (arith, S .upwards (q .0) (o .lead) (o .holds), S .inside (q .0) (o .lead) (o .holds), o .begins, head-of N (q .0) (o .lead) (o .holds))))
+        let g = goes-parts N m left (headAt N k) (q .0) (q .1) in let o = g .0 in (
+          q .0,
+          q .1,
+          record { lead = o .lead; holds = o .holds; some = g .1 },
+          omega (arith, S .upwards (q .0) (o .lead) (o .holds), S .inside (q .0) (o .lead) (o .holds), o .begins, head-of N (q .0) (o .lead) (o .holds)),
+        ))
 
     -- while something is left in start leads a path can be drawn
     draw-one : 1 ≤ total-load N m left → (core p : List ℕ) × Drawn N m left core p

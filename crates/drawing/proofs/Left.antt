@@ -56,9 +56,12 @@ module _ {D : Type 0} {K : Kind D} {N : Net D} (S : Sound K N) (m : Marks) (left
   onward-chain k l h [] stop w =
       (ap stands h, refl, ⊎-elim (λ c. c .1) (λ c. absurd (both-ways (isEnd N m k) (c .0) (w .0))) (end-lies N m k l h))
   onward-chain k l h (j ∷ js) stop w =
-      let o = goes-parts N m left (headAt N k) j (w .1) .0 in
-      (ap stands h, refl, subst (λ (u : ℕ). Chain (arcs-of N m) u (j ∷ js) (last-node N)) (sym (next-link N m k l h (w .0) j o .1))
-      (onward-chain j (o .lead) (o .holds) js stop (w .2)))
+      let o = goes-parts N m left (headAt N k) j (w .1) .0 in (
+        ap stands h,
+        refl,
+        subst (λ (u : ℕ). Chain (arcs-of N m) u (j ∷ js) (last-node N)) (sym (next-link N m k l h (w .0) j o .1))
+            (onward-chain j (o .lead) (o .holds) js stop (w .2)),
+      )
 
   -- a core is a chain from the source to the sink
   core-chain : {k : ℕ} → First N m left k → (js : List ℕ) (stop : ℕ) → Walk (onwards N m left) k js stop → Chain (arcs-of N m) 0 (k ∷ js) (last-node N)
@@ -79,8 +82,11 @@ module _ {D : Type 0} {K : Kind D} {N : Net D} (S : Sound K N) (m : Marks) (left
   pub core-fits : {k : ℕ} → First N m left k → (js : List ℕ) (stop : ℕ) → Walk (onwards N m left) k js stop → (i : ℕ) → count-on i (k ∷ js) ≤ left i
   core-fits {k} F js stop w i = ⊎-elim
       (λ c. omega arith)
-      (λ c. omega (arith, chain-once (arcs-of N m) (arcs-sound S m) 0 (last-node N) (k ∷ js) (core-chain F js stop w) i,
-      core-leads k (F .lead) (F .holds) (F .some) js stop w i (count-on-list i (k ∷ js) c) .1))
+      (λ c. omega (
+        arith,
+        chain-once (arcs-of N m) (arcs-sound S m) 0 (last-node N) (k ∷ js) (core-chain F js stop w) i,
+        core-leads k (F .lead) (F .holds) (F .some) js stop w i (count-on-list i (k ∷ js) c) .1,
+      ))
       (cases-lt (count-on i (k ∷ js)) 1)
 
   module _ (B : Left N m left) where
@@ -89,7 +95,7 @@ module _ {D : Type 0} {K : Kind D} {N : Net D} (S : Sound K N) (m : Marks) (left
         Left N m (lowered left (k ∷ js)) × (total-load N m left ≡ total-load N m (lowered left (k ∷ js)) + 1)
     core-lowers {k} F js stop w =
         let r = lowered-balanced (arcs-of N m) (arcs-sound S m) (k ∷ js) (core-chain F js stop w) left (balanced-arcs S m left (B .balanced))
-            (core-fits F js stop w) in (
+        (core-fits F js stop w) in (
           record { vacant = λ i e. omega (arith, B .vacant i e); balanced = arcs-balanced S m (lowered left (k ∷ js)) (r .0) },
           omega (arith, same-total S m left, same-total S m (lowered left (k ∷ js)), r .1),
         )

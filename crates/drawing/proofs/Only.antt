@@ -20,11 +20,11 @@ module _ {D : Type 0} (N : Net D) (m : Marks) where
   drawn-one {left} {c} {d} {p} {q} A B =
       let e : A .start ≡ B .start = lowest-one (A .lowest) (B .lowest) in
       let r = walk-one (onwards N m left) (B .start) (A .rest) (B .rest) (subst (λ (x : ℕ). Walk (onwards N m left) x (A .rest) (A .stop)) e (A .onward))
-          (B .onward) in
+      (B .onward) in
       let b = walk-one (backwards N m) (tailAt N (B .start)) (A .behind) (B .behind)
-          (subst (λ (x : ℕ). Walk (backwards N m) (tailAt N x) (A .behind) (A .input)) e (A .back)) (B .back) .0 in
+      (subst (λ (x : ℕ). Walk (backwards N m) (tailAt N x) (A .behind) (A .input)) e (A .back)) (B .back) .0 in
       let a = walk-one (forwards N m) (headAt N (B .stop)) (A .ahead) (B .ahead)
-          (subst (λ (x : ℕ). Walk (forwards N m) (headAt N x) (A .ahead) (A .output)) (r .1) (A .fore)) (B .fore) .0 in
+      (subst (λ (x : ℕ). Walk (forwards N m) (headAt N x) (A .ahead) (A .output)) (r .1) (A .fore)) (B .fore) .0 in
       let same : c ≡ d = A .core-is ∙ cons-same e (r .0) ∙ sym (B .core-is) in
       (same, A .path-is ∙ (λ i. reverse (b i) ++ (same i ++ a i)) ∙ sym (B .path-is))
 

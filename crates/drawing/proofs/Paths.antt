@@ -110,9 +110,9 @@ module _ {D : Type 0} {K : Kind D} (L : Laws K) {N : Net D} (S : Sound K N) {to 
       let F = first-parts N m left (R .start) (R .lowest) in
       let l = F .lead in let h = F .holds in
       let c = behind-run (R .input) (l .tail) (R .behind)
-          (subst (λ (w : ℕ). Walk (backwards N m) w (R .behind) (R .input)) (tail-of N (R .start) l h) (R .back)) in
+      (subst (λ (w : ℕ). Walk (backwards N m) w (R .behind) (R .input)) (tail-of N (R .start) l h) (R .back)) in
       let g = subst (λ (w : ℕ). Going K N from w (R .rest ++ R .ahead)) (head-of N (R .start) l h)
-          (onward-run left (R .output) (R .start) (R .rest) (R .ahead) (R .stop) (R .onward) (R .fore)) in
+      (onward-run left (R .output) (R .start) (R .rest) (R .ahead) (R .stop) (R .onward) (R .fore)) in
       parts-cover L S T l h (reverse (R .behind)) (R .rest ++ R .ahead)
       (record {
         source = c .source;
@@ -128,10 +128,10 @@ module _ {D : Type 0} {K : Kind D} (L : Laws K) {N : Net D} (S : Sound K N) {to 
   drawn-covers {left} {core} {p} R k o =
       let F = first-parts N m left (R .start) (R .lowest) in
       let is : p ≡ reverse (R .behind) ++ (R .start ∷ (R .rest ++ R .ahead)) = R .path-is
-          ∙ ap (λ (c : List ℕ). reverse (R .behind) ++ (c ++ R .ahead)) (R .core-is) in
+      ∙ ap (λ (c : List ℕ). reverse (R .behind) ++ (c ++ R .ahead)) (R .core-is) in
       subst (λ (q : List ℕ). Covers K N q k) (sym is)
       (core-covers left (reverse (R .behind)) (R .start) (F .lead) (F .holds) (R .rest) (R .ahead) (R .stop) (R .onward) (drawn-covers-start R) k
-          (subst (On k) (R .core-is) o))
+      (subst (On k) (R .core-is) o))
 
   -- and is a path
   pub drawn-path : {left : ℕ → ℕ} {core p : List ℕ} → Drawn N m left core p → PathOf N p

@@ -26,7 +26,7 @@ pub tight-count : (T : Table) → Sound T → (f : ℕ → ℕ) → Balanced T f
 tight-count T S f B R C =
     total-enters T S f B R (C .sink-in) (C .source-out) (C .none-leaves)
     ∙ sum-cong (T .places) (λ j. cond (entering T R j) (f j) 0) (λ j. cond (entering T R j) 1 0)
-        (λ j l. go j (T .arc j) (R (T .begin j)) (R (T .end j)) refl refl refl)
+    (λ j l. go j (T .arc j) (R (T .begin j)) (R (T .end j)) refl refl refl)
   where
     go : (j : ℕ) (p q r : Bool) → T .arc j ≡ p → R (T .begin j) ≡ q → R (T .end j) ≡ r → cond (p && (not q && r)) (f j) 0 ≡ cond (p && (not q && r)) 1 0
     go j true true r a b c = refl

@@ -81,7 +81,7 @@ pub goes-on : (T : Table) → Sound T → (left : ℕ → ℕ) → Balanced T le
     (j : ℕ) × (T .arc j ≡ true) × (T .begin j ≡ T .end k) × (1 ≤ left j)
 goes-on T S left B k a l n =
     let here = where-term (T .places) k (ends T (T .end k)) left (arc-inside T S k a)
-        (and-from (T .arc k) (eqb (T .end k) (T .end k)) a (eq-eqb (T .end k) (T .end k) refl)) in
+    (and-from (T .arc k) (eqb (T .end k) (T .end k)) a (eq-eqb (T .end k) (T .end k) refl)) in
     let same = B (T .end k) (S .from-source k a) n in
     let found = where-some (T .places) (begins T (T .end k)) left (omega arith) in
     let parts = and-parts (T .arc (found .0)) (eqb (T .begin (found .0)) (T .end k)) (found .2) in

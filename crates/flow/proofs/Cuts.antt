@@ -54,7 +54,7 @@ sides : (T : Table) → Sound T → (f : ℕ → ℕ) → Balanced T f → (R : 
     ≡ sum-where (T .places) (λ k. T .arc k && R (T .begin k)) f + cond (R (T .sink)) (into T f (T .sink)) 0
 sides T S f B R =
     let level = sum-level (bound T) (λ v. cond (R v) (into T f v) 0) (λ v. cond (R v && eqb (T .source) v) (total T f) 0) (λ v. cond (R v) (out-of T f v) 0)
-        (λ v. cond (R v && eqb (T .sink) v) (into T f (T .sink)) 0)
+    (λ v. cond (R v && eqb (T .sink) v) (into T f (T .sink)) 0)
     (λ v l. at (R v) (eqb (T .source) v) (eqb (T .sink) v) (into T f v) (out-of T f v) (total T f) (into T f (T .sink)) (node-level T S f B v)) in
     let ins = sum-gather (bound T) (T .places) (T .arc) (T .end) R f (λ k a. omega (arith, S .within k a)) in
     let outs = sum-gather (bound T) (T .places) (T .arc) (T .begin) R f (λ k a. omega (arith, S .within k a, S .up k a)) in
@@ -76,7 +76,7 @@ cut T S f B R =
     let both = sides T S f B R in
     let same = ap (λ (x : ℕ). cond (R (T .sink)) x 0) (total-at-sink T S f B) in
     let parts = sum-level (T .places) (λ k. cond (T .arc k && R (T .end k)) (f k) 0) (λ k. cond (leaving T R k) (f k) 0)
-        (λ k. cond (T .arc k && R (T .begin k)) (f k) 0) (λ k. cond (entering T R k) (f k) 0)
+    (λ k. cond (T .arc k && R (T .begin k)) (f k) 0) (λ k. cond (entering T R k) (f k) 0)
     (λ k l. at (T .arc k) (R (T .begin k)) (R (T .end k)) (f k)) in
     omega arith
   where

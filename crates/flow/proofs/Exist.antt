@@ -52,7 +52,7 @@ backward T S J i (suc n) k l a c C o = ⊎-elim (λ e. (k ∷ c, (a, e, C), o)) 
   where
     further : (j : ℕ) × (T .arc j ≡ true) × (T .end j ≡ T .begin k) →
         ((j : ℕ) → T .begin j < n → T .arc j ≡ true → (b : List ℕ) → Chain T (T .end j) b (T .sink) → 1 ≤ count-on i (j ∷ b) → (b : List ℕ)
-            × Chain T (T .source) b (T .sink) × (1 ≤ count-on i b)) →
+        × Chain T (T .source) b (T .sink) × (1 ≤ count-on i b)) →
         (b : List ℕ) × Chain T (T .source) b (T .sink) × (1 ≤ count-on i b)
     further s rest = rest (s .0) (omega (arith, S .up (s .0) (s .1), s .2)) (s .1) (k ∷ c) (a, sym (s .2), C) (omega arith)
 
@@ -91,8 +91,12 @@ begun-raised T S f n B c C o =
     begun-kept T (raised f c) n
     (record {
       arcs = λ k l a. omega (arith, B .arcs k l a);
-      vacant = λ k a. omega (arith, B .vacant k a, chain-count c k,
-          vacant-not-counted T (T .source) (T .sink) (steps-along c) (chain-way T (T .source) (T .sink) c C) k a .0);
+      vacant = λ k a. omega (
+        arith,
+        B .vacant k a,
+        chain-count c k,
+        vacant-not-counted T (T .source) (T .sink) (steps-along c) (chain-way T (T .source) (T .sink) c C) k a .0,
+      );
       balanced = raised-balanced T S c C f (B .balanced) .0;
     })
     (λ a. omega arith)

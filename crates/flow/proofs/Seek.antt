@@ -60,8 +60,11 @@ trail-more T f low u R depth via H s o =
           above = o .above;
           to = e;
           from = kept (step-from T s) (o .from);
-          deeper = omega (arith, put-off depth v (depth (step-from T s) + 1) (step-from T s) (apart (step-from T s) (o .from)),
-              put-at depth v (depth (step-from T s) + 1) w e);
+          deeper = omega (
+            arith,
+            put-off depth v (depth (step-from T s) + 1) (step-from T s) (apart (step-from T s) (o .from)),
+            put-at depth v (depth (step-from T s) + 1) w e,
+          );
           free = o .free;
         })
 
@@ -74,8 +77,12 @@ trail-more T f low u R depth via H s o =
           above = c .above;
           to = c .to;
           from = kept (step-from T (via w)) (c .from);
-          deeper = omega (arith, put-off depth v (depth (step-from T s) + 1) (step-from T (via w)) (apart (step-from T (via w)) (c .from)),
-              put-off depth v (depth (step-from T s) + 1) w d, c .deeper);
+          deeper = omega (
+            arith,
+            put-off depth v (depth (step-from T s) + 1) (step-from T (via w)) (apart (step-from T (via w)) (c .from)),
+            put-off depth v (depth (step-from T s) + 1) w d,
+            c .deeper,
+          );
           free = c .free;
         })
 
@@ -86,7 +93,7 @@ unreached T R = sum-below (T .nodes) (λ v. cond (R v) 0 1)
 pub fewer : (T : Table) (R : ℕ → Bool) (v : ℕ) → v < T .nodes → R v ≡ false → unreached T (put R v true) < unreached T R
 fewer T R v l e =
     sum-lt (T .nodes) v (λ w. cond (put R v true w) 0 1) (λ w. cond (R w) 0 1) l (λ w m. at (eqb v w) (R w))
-        (here (put R v true v) (R v) (put-at R v true v refl) e)
+    (here (put R v true v) (R v) (put-at R v true v refl) e)
   where
     at : (a b : Bool) → cond (cond a true b) 0 1 ≤ cond b 0 1
     at true b = omega arith
@@ -159,7 +166,7 @@ search-on T S f low u zero R depth via H l = absurd (omega arith)
 search-on T S f low u (suc n) R depth via H l =
     ⊎-elim
     (λ o. search-on T S f low u n (put R (step-to T (o .0)) true) (put depth (step-to T (o .0)) (depth (step-from T (o .0)) + 1))
-        (put via (step-to T (o .0)) (o .0))
+    (put via (step-to T (o .0)) (o .0))
     (trail-more T f low u R depth via H (o .0) (o .1)) (omega (arith, fewer T R (step-to T (o .0)) (step-within T S (o .0) (o .1 .arc)) (o .1 .to))))
     (λ s. record { reached = R; depth = depth; via = via; trail = H; shut = s })
     (opens-or-shut T S f low R)
@@ -167,9 +174,9 @@ search-on T S f low u (suc n) R depth via H l =
 found-or-shut : (T : Table) → Sound T → (f : ℕ → ℕ) (low u v : ℕ) → Found T f low u v ⊎ ((R : ℕ → Bool) × Shut T f low R × (R u ≡ true) × (R v ≡ false))
 found-or-shut T S f low u v =
     let e = search-on T S f low u (suc (unreached T (λ w. eqb w u))) (λ w. eqb w u) (λ w. 0) (λ w. back 0) (trail-none T f low u (λ w. 0) (λ w. back 0))
-        (omega arith) in
+    (omega arith) in
     ⊎-elim (λ r. inl (trail-found T f low u v (e .reached) (e .depth) (e .via) (e .trail .came) r)) (λ r. inr (e .reached, e .shut, e .trail .start, r))
-        (cases-bool (e .reached v))
+    (cases-bool (e .reached v))
 
 -- loads of the least total
 least-exist : (T : Table) → Sound T → (n : ℕ) (f : ℕ → ℕ) → Loads T f → total T f < n → (g : ℕ → ℕ) × Loads T g × Least T g
@@ -211,11 +218,14 @@ settle T S k (suc n) f O l = go (settle T S k n) (T .arc k) refl
         large : 2 ≤ f k → (g : ℕ → ℕ) × Ordered T g (suc k)
         large m =
             ⊎-elim (λ w. again (lower T S f (O .loads) k a m w))
-            (λ r. (f, record {
-              loads = O .loads;
-              least = O .least;
-              first = first-settled T S f k (O .loads) a (r .0) (shut-settled T f k (r .0) (O .loads) (r .1) (r .2) (r .3)) (O .first);
-            }))
+            (λ r. (
+              f,
+              record {
+                loads = O .loads;
+                least = O .least;
+                first = first-settled T S f k (O .loads) a (r .0) (shut-settled T f k (r .0) (O .loads) (r .1) (r .2) (r .3)) (O .first);
+              },
+            ))
             (found-or-shut T S f (suc k) (T .begin k) (T .end k))
           where
             again : (g : ℕ → ℕ) × Loads T g × (total T g ≡ total T f) × ((j : ℕ) → j < k → g j ≡ f j) × (g k < f k) → (g : ℕ → ℕ) × Ordered T g (suc k)

@@ -35,7 +35,7 @@ not-counted (s ∷ ss) k h =
 pub vacant-not-counted : (T : Table) (u v : ℕ) (ss : List Step) → Way T u ss v → (k : ℕ) → T .arc k ≡ false → (along-count ss k ≡ 0) × (against-count ss k ≡ 0)
 vacant-not-counted T u v ss W k e =
     not-counted ss k (all-weaker (λ s. T .arc (s .place) ≡ true) (λ s. s .place ≡ k → ⊥)
-        (λ s a q. both-ways (T .arc k) e (subst (λ (x : ℕ). T .arc x ≡ true) q a)) ss (way-arcs T u v ss W))
+    (λ s a q. both-ways (T .arc k) e (subst (λ (x : ℕ). T .arc x ≡ true) q a)) ss (way-arcs T u v ss W))
 
 -- where a step goes against k there is slack
 slack-at : (d : ℕ) (f : ℕ → ℕ) (ss : List Step) → All (Slack d f) ss → (k : ℕ) → 1 ≤ against-count ss k → d + 1 ≤ f k
@@ -185,7 +185,7 @@ falling-once T rank u v (s ∷ ss) W h k = go (falling-once T rank (step-to T s)
       where
         clash : (a b : Bool) (i j : ℕ) → j ≡ i → rank (cond a (T .end i) (T .begin i)) < rank (cond a (T .begin i) (T .end i)) →
             rank (cond b (T .end j) (T .begin j)) < rank (cond b (T .begin j) (T .end j)) →
-                rank (cond b (T .begin j) (T .end j)) ≤ rank (cond a (T .end i) (T .begin i)) → ⊥
+            rank (cond b (T .begin j) (T .end j)) ≤ rank (cond a (T .end i) (T .begin i)) → ⊥
         clash a b i j q x y z = sides a b (ap (λ (n : ℕ). rank (T .begin n)) q) (ap (λ (n : ℕ). rank (T .end n)) q) x y z
           where
             sides : (a b : Bool) → rank (T .begin j) ≡ rank (T .begin i) → rank (T .end j) ≡ rank (T .end i) →
@@ -201,13 +201,13 @@ falling-once T rank u v (s ∷ ss) W h k = go (falling-once T rank (step-to T s)
         cond (a && b) 1 0 + along-count ss k + (cond (not a && b) 1 0 + against-count ss k) ≤ 1
     go rest true true q =
         let nowhere = not-counted ss k
-            (all-weaker (λ r. Falls T rank r × (rank (step-from T r) ≤ rank (step-to T s))) (λ r. r .place ≡ k → ⊥)
-            (λ r l e. differ r l (e ∙ sym (eqb-true (s .place) k q))) ss later) in
+        (all-weaker (λ r. Falls T rank r × (rank (step-from T r) ≤ rank (step-to T s))) (λ r. r .place ≡ k → ⊥)
+        (λ r l e. differ r l (e ∙ sym (eqb-true (s .place) k q))) ss later) in
         omega arith
     go rest false true q =
         let nowhere = not-counted ss k
-            (all-weaker (λ r. Falls T rank r × (rank (step-from T r) ≤ rank (step-to T s))) (λ r. r .place ≡ k → ⊥)
-            (λ r l e. differ r l (e ∙ sym (eqb-true (s .place) k q))) ss later) in
+        (all-weaker (λ r. Falls T rank r × (rank (step-from T r) ≤ rank (step-to T s))) (λ r. r .place ≡ k → ⊥)
+        (λ r l e. differ r l (e ∙ sym (eqb-true (s .place) k q))) ss later) in
         omega arith
     go rest true false q = omega arith
     go rest false false q = omega arith

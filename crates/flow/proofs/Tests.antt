@@ -51,10 +51,10 @@ loads-by-test T S f past h =
     level : (v : ℕ) → (v ≡ T .source → ⊥) → (v ≡ T .sink → ⊥) → v < T .nodes → into T f v ≡ out-of T f v
     level v a b l =
         ⊎-elim (λ e. ⊎-elim (λ x. absurd (a (eqb-true v (T .source) x))) (λ x. absurd (b (eqb-true v (T .sink) x)))
-            (or-cases (eqb v (T .source)) (eqb v (T .sink)) e))
+        (or-cases (eqb v (T .source)) (eqb v (T .sink)) e))
         (λ e. eqb-true (into T f v) (out-of T f v) e)
         (or-cases (eqb v (T .source) || eqb v (T .sink)) (eqb (into T f v) (out-of T f v))
-            (all-below-at (T .nodes) even (and-parts (all-below (T .places) load) (all-below (T .nodes) even) h .1) v l))
+        (all-below-at (T .nodes) even (and-parts (all-below (T .places) load) (all-below (T .nodes) even) h .1) v l))
 
 -- the two facts of an arc that keeps R
 keeps-in : (T : Table) (f : ℕ → ℕ) (R : ℕ → Bool) (k : ℕ) → keeps T f R k ≡ true → T .arc k ≡ true → R (T .begin k) ≡ true → R (T .end k) ≡ true
@@ -119,4 +119,4 @@ best-by-test T S f past R Q h =
     each : (k : ℕ) → T .arc k ≡ true → (f k ≡ 1) ⊎ ((P : ℕ → Bool) × Settled T f k P)
     each k a = ⊎-elim (λ e. inl (eqb-true (f k) 1 e)) (λ e. inr (Q k, settled-by-test T S f k (Q k) e))
         (or-cases (eqb (f k) 1) (settled-test T f k (Q k))
-            (arc-part (T .arc k) (arc-test k) (all-below-at (T .places) (λ j. not (T .arc j) || arc-test j) (two .1) k (arc-inside T S k a)) a))
+        (arc-part (T .arc k) (arc-test k) (all-below-at (T .places) (λ j. not (T .arc j) || arc-test j) (two .1) k (arc-inside T S k a)) a))

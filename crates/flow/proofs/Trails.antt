@@ -19,7 +19,7 @@ pub rising-once : (T : Table) (depth : ℕ → ℕ) (most u v : ℕ) (ss : List 
     All (λ s. (depth (step-from T s) < depth (step-to T s)) × (depth (step-to T s) ≤ most)) ss → Once ss
 rising-once T depth most u v ss W h =
     falling-once T (λ n. most - depth n) u v ss W
-        (all-weaker (λ s. (depth (step-from T s) < depth (step-to T s)) × (depth (step-to T s) ≤ most)) (Falls T (λ n. most - depth n)) (λ s l. omega arith) ss h)
+    (all-weaker (λ s. (depth (step-from T s) < depth (step-to T s)) × (depth (step-to T s) ≤ most)) (Falls T (λ n. most - depth n)) (λ s l. omega arith) ss h)
 
 abbrev Good : Table → (ℕ → ℕ) → ℕ → (ℕ → ℕ) → ℕ → Step → Type 0
 Good T f low depth most s = (low ≤ s .place) × (s .along ≡ false → 2 ≤ f (s .place)) × (depth (step-from T s) < depth (step-to T s))
@@ -44,7 +44,7 @@ walk-back T f low u v R depth via h (suc n) w l m r ss W G = ⊎-elim done (λ d
 
     further : (w ≡ u → ⊥) → Came T f low R depth (via w) w →
         ((x : ℕ) → depth x < n → depth x ≤ depth v → R x ≡ true → (ts : List Step) → Way T x ts v → All (Good T f low depth (depth v)) ts →
-            Found T f low u v) → Found T f low u v
+        Found T f low u v) → Found T f low u v
     further d c rest =
         let s = via w in
         let there = ap depth (c .to) in
@@ -79,8 +79,10 @@ slack-fits f x (s ∷ ss) h = go (s .along) refl (slack-fits f x ss (h .1))
 
     go : (a : Bool) → s .along ≡ a → All (Slack (slack-of f x ss) f) ss → All (Slack (low (s .along)) f) (s ∷ ss)
     go true e r = ((λ q. absurd (mathlib.Core.Bool.true≢false (sym e ∙ q))), subst (λ (b : Bool). All (Slack (low b) f) ss) (sym e) r)
-    go false e r = ((λ q. subst (λ (b : Bool). low b + 1 ≤ f (s .place)) (sym e) (omega (arith, h .0 q))),
-        subst (λ (b : Bool). All (Slack (low b) f) ss) (sym e) (slack-weaker f (slack-of f x ss) (low false) ss (omega arith) r))
+    go false e r = (
+      (λ q. subst (λ (b : Bool). low b + 1 ≤ f (s .place)) (sym e) (omega (arith, h .0 q))),
+      subst (λ (b : Bool). All (Slack (low b) f) ss) (sym e) (slack-weaker f (slack-of f x ss) (low false) ss (omega arith) r),
+    )
 
 pub slack-some : (f : ℕ → ℕ) (x : ℕ) (ss : List Step) → 1 ≤ x → All (λ s. s .along ≡ false → 2 ≤ f (s .place)) ss → 1 ≤ slack-of f x ss
 slack-some f x [] l h = l
@@ -116,6 +118,8 @@ pub lowered-exists : (T : Table) → Sound T → (f : ℕ → ℕ) (k : ℕ) →
     (g : ℕ → ℕ) × Shifted (slack-of f (f k - 1) (w .steps)) (back k ∷ w .steps) f g
 lowered-exists T S f k w two =
     let d = slack-of f (f k - 1) (w .steps) in
-    let most = slack-le f (f k - 1) (w .steps) in
-    (shifted d (back k ∷ w .steps) f, shifted-is d (back k ∷ w .steps) f
-        (slack-enough d (back k ∷ w .steps) f (once-more k (w .steps) (w .once) (w .above)) ((λ e. omega arith), slack-fits f (f k - 1) (w .steps) (w .free))))
+    let most = slack-le f (f k - 1) (w .steps) in (
+      shifted d (back k ∷ w .steps) f,
+      shifted-is d (back k ∷ w .steps) f
+          (slack-enough d (back k ∷ w .steps) f (once-more k (w .steps) (w .once) (w .above)) ((λ e. omega arith), slack-fits f (f k - 1) (w .steps) (w .free))),
+    )

@@ -15,7 +15,7 @@ use Rattle.flow.proofs.Cuts.{arc-inside, none-into-source}
 -- along a way, what the steps bring to a node and take from it telescopes
 way-level : (T : Table) → Sound T → (u v : ℕ) (ss : List Step) → Way T u ss v → (w : ℕ) →
     into T (along-count ss) w + out-of T (against-count ss) w + cond (eqb u w) 1 0 ≡ out-of T (along-count ss) w + into T (against-count ss) w + cond
-        (eqb v w) 1 0
+    (eqb v w) 1 0
 way-level T S u v [] e w =
     let ends-same = ap (λ (x : ℕ). cond {A = ℕ} (eqb x w) 1 0) e in
     let one = where-zero (T .places) (ends T w) in

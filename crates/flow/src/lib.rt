@@ -7,24 +7,20 @@ ghost use Rattle.flow.specs.Claims.{Tight-cut-exists, One-best, Best-by-test};
 pub fn cuts_balance()
     ensures identity { λ _. ⌜ Cut-identity ⌝ }
     ensures within { λ _. ⌜ Load-within-total ⌝ }
-{
-}
+{}
 
 /// A total is least just where a tight cut shows it.
 pub fn cut_shows_least()
     ensures shown { λ _. ⌜ Tight-cut-shows-least ⌝ }
     ensures exists { λ _. ⌜ Tight-cut-exists ⌝ }
-{
-}
+{}
 
 /// There are best loads, and one only.
 pub fn one_best()
     ensures { λ _. ⌜ One-best ⌝ }
-{
-}
+{}
 
 /// Loads are shown to be best by a test that computes.
 pub fn best_by_test()
     ensures { λ _. ⌜ Best-by-test ⌝ }
-{
-}
+{}

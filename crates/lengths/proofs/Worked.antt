@@ -59,7 +59,7 @@ module _ {D : Type 0} {K : Kind D} (L : Laws K) {N : Net D} (S : Sound K N) wher
       (λ u h. subst (LengthAt K N next u) (same u h) (length-kept K N S (entry K xs) next u (entry K xs u) (λ t j. same t (omega arith)) (R u h)))
       (subst (LengthAt K N next v) (sym here)
       (length-kept K N S (entry K xs) next v x same
-          (next-length (entry K xs) v (longest-into K N (entry K xs) v (N .places)) (longest-below (entry K xs) v R (N .places)))))
+      (next-length (entry K xs) v (longest-into K N (entry K xs) v (N .places)) (longest-below (entry K xs) v R (N .places)))))
 
   lengths-count : (n : ℕ) → length (lengths-to K N n) ≡ n
   lengths-count zero = refl
