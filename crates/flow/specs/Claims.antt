@@ -1,9 +1,9 @@
 -- What holds of the loads on every sound table of arcs.
 use mathlib.Core.Path.{_≡_}
 use mathlib.Core.Bool.{Bool, true, cond}
-use Prim.Native.Nat.{ℕ, _+_, _≤_}
+use Prim.Native.Nat.{ℕ, suc, _+_, _≤_}
 use Rattle.flow.specs.Table.{Table, Sound, Joined}
-use Rattle.flow.specs.Loads.{total, Balanced, Loads, Least, Best, leave, enter, Tight}
+use Rattle.flow.specs.Loads.{total, Balanced, Loads, Least, Best, leave, enter, Tight, Settled, FirstTo}
 use Rattle.flow.specs.Tests.{best-test}
 
 -- what leaves a cut, with the total if the sink is inside, is what enters it, with the total if the source is inside
@@ -23,6 +23,12 @@ Tight-cut-shows-least = (T : Table) → Sound T → (f : ℕ → ℕ) → Loads 
 -- where the total is least, there is a tight cut
 abbrev pub Tight-cut-exists : Type 0
 Tight-cut-exists = (T : Table) → Sound T → (f : ℕ → ℕ) → Loads T f → Least T f → (R : ℕ → Bool) × Tight T f R
+
+-- one step of the comparison in ascending number: where no loads of the same total come before f below the arc k, and a cut settles
+-- the load of k, none come before f up to k either
+abbrev pub Settled-cut-shows-first : Type 0
+Settled-cut-shows-first = (T : Table) → Sound T → (f : ℕ → ℕ) (k : ℕ) → Loads T f → T .arc k ≡ true → (R : ℕ → Bool) → Settled T f k R →
+    FirstTo T f k → FirstTo T f (suc k)
 
 -- where every arc can be gone on from, both ways, there are best loads, and they are the only ones
 abbrev pub One-best : Type 0
