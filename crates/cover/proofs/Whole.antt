@@ -56,7 +56,7 @@ module _ {D : Type 0} {K : Kind D} (L : Laws K) where
   }
 
   pub load-within-total : Load-within-total K
-  load-within-total N S m Y f B k = ⊎-elim
+  load-within-total N S m f B k = ⊎-elim
       (λ a. omega (arith, same-total S m f, at-most-total (arcs-of N m) (arcs-sound S m) f (loads-to-arcs S m f B .balanced) k a))
       (λ a. omega (arith, B .vacant k a))
       (cases-bool (isLead N k))

@@ -51,7 +51,7 @@ Loads-are-arc-loads {D} K = (N : Net D) → Sound K N → (m : Marks) → Types 
 
 -- no load is above the total
 abbrev pub Load-within-total : {D : Type 0} → Kind D → Type 0
-Load-within-total {D} K = (N : Net D) → Sound K N → (m : Marks) → Types K N m → (f : ℕ → ℕ) → Loads N m f → (k : ℕ) → f k ≤ total-load N m f
+Load-within-total {D} K = (N : Net D) → Sound K N → (m : Marks) (f : ℕ → ℕ) → Loads N m f → (k : ℕ) → f k ≤ total-load N m f
 
 -- the types and the best loads of a wiring: one of each, and no others
 pub record OneBest {D : Type 0} (K : Kind D) (N : Net D) : Type 0 where

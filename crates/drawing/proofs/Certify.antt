@@ -95,7 +95,7 @@ module _ {D : Type 0} (N : Net D) (m : Marks) where
 -- a certificate that passes the test gives the list
 unfoldable pub list-by-test : {D : Type 0} {K : Kind D} → Laws K → List-by-test K
 list-by-test {K = K} L N c e =
-    let m = worked-marks K N c in let f = loads-in K N c in
+    let m = worked-marks K N in let f = loads-in c in
     let best = best-test (arcs-of N m) f (c .cut) (c .cuts) in
     let p = and-parts (sound-test K N && leb (length (c .loads)) (N .places)) (best && draws-test N m f (c .drawings)) e in
     let q = and-parts (sound-test K N) (leb (length (c .loads)) (N .places)) (p .0) in

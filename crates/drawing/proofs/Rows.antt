@@ -50,7 +50,7 @@ type-says p q e =
 
 module _ {D : Type 0} (K : Kind D) (r : Row) (c : Certificate) where
   abbrev types-test : Bool
-  types-test = all-below (length (r .types)) (λ k. same-type (worked-marks K (wired K r) c k) (getD (r .types) k (false, false)))
+  types-test = all-below (length (r .types)) (λ k. same-type (worked-marks K (wired K r) k) (getD (r .types) k (false, false)))
 
   -- the certificate shows the list of the row's wiring, with the row's words and types
   abbrev row-test : Bool
@@ -65,8 +65,8 @@ module _ {D : Type 0} (K : Kind D) (r : Row) (c : Certificate) where
         paths = paths-of c;
         list = list-by-test L (wired K r) c (p .0);
         words-are = words-by-test (words (paths-of c)) (r .words) (q .0);
-        types-are = λ k h. type-says (worked-marks K (wired K r) c k) (getD (r .types) k (false, false))
-            (all-below-at (length (r .types)) (λ j. same-type (worked-marks K (wired K r) c j) (getD (r .types) j (false, false))) (q .1) k h);
+        types-are = λ k h. type-says (worked-marks K (wired K r) k) (getD (r .types) k (false, false))
+            (all-below-at (length (r .types)) (λ j. same-type (worked-marks K (wired K r) j) (getD (r .types) j (false, false))) (q .1) k h);
       }
 
 abbrev test-as : Reading → Row → Certificate → Bool

@@ -73,15 +73,15 @@ module _ {D : Type 0} (N : Net D) (m : Marks) where
   draws-test left [] = all-below (N .places) (λ k. eqb (left k) 0)
   draws-test left (d ∷ ds) = drawn-test left d && draws-test (lowered left (core-of d)) ds
 
-module _ {D : Type 0} (K : Kind D) (N : Net D) (c : Certificate) where
-  -- the types of the leads, by the lengths that are worked out
-  abbrev pub worked-marks : Marks
-  worked-marks = marks-of K N (worked-to K N) (worked-from K N)
+-- the types of the leads, by the lengths that are worked out
+abbrev pub worked-marks : {D : Type 0} → Kind D → Net D → Marks
+worked-marks K N = marks-of K N (worked-to K N) (worked-from K N)
 
-  abbrev pub loads-in : ℕ → ℕ
-  loads-in k = getD (c .loads) k 0
+-- the loads of a certificate, 0 past the last
+abbrev pub loads-in : Certificate → ℕ → ℕ
+loads-in c k = getD (c .loads) k 0
 
-  -- the certificate's loads are best, and its drawings draw them out: so its paths are the list of the wiring
-  abbrev pub list-test : Bool
-  list-test = (sound-test K N && leb (length (c .loads)) (N .places))
-      && (best-test (arcs-of N worked-marks) loads-in (c .cut) (c .cuts) && draws-test N worked-marks loads-in (c .drawings))
+-- the certificate's loads are best, and its drawings draw them out: so its paths are the list of the wiring
+abbrev pub list-test : {D : Type 0} → Kind D → Net D → Certificate → Bool
+list-test K N c = (sound-test K N && leb (length (c .loads)) (N .places))
+    && (best-test (arcs-of N (worked-marks K N)) (loads-in c) (c .cut) (c .cuts) && draws-test N (worked-marks K N) (loads-in c) (c .drawings))

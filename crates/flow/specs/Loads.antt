@@ -41,7 +41,8 @@ leave T f R = sum-where (T .places) (leaving T R) f
 abbrev pub enter : Table → (ℕ → ℕ) → (ℕ → Bool) → ℕ
 enter T f R = sum-where (T .places) (entering T R) f
 
--- R is a tight cut, one that shows that the total of f is least: it has the sink and not the source, no arc leaves it, and those that enter it have load 1
+-- R is a tight cut, one that shows that the total of f is least: it has the sink and not the source, no arc leaves it, and the
+-- arcs that enter it have load 1
 pub record Tight (T : Table) (f : ℕ → ℕ) (R : ℕ → Bool) : Type 0 where
   pub sink-in : R (T .sink) ≡ true
   pub source-out : R (T .source) ≡ false

@@ -25,7 +25,7 @@ abbrev pub count-on : ℕ → List ℕ → ℕ
 count-on k [] = 0
 count-on k (j ∷ js) = cond (eqb k j) 1 0 + count-on k js
 
--- what is left when each lead of the core is lowered by 1
+-- a path is drawn for the sake of some of its leads, its core: what is left when each lead of the core is lowered by 1
 abbrev pub lowered : (ℕ → ℕ) → List ℕ → ℕ → ℕ
 lowered left core k = left k - count-on k core
 
