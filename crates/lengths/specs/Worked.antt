@@ -1,4 +1,4 @@
--- The lengths to all nodes of a wiring, worked out node by node.
+-- The lengths to all nodes of a wiring, worked out node by node: for tests that compute. What To and From are is said over runs.
 use mathlib.Core.Bool.{cond}
 use mathlib.Core.List.{List, [], _∷_, _++_}
 use Prim.Native.Nat.{ℕ, zero, suc}
