@@ -74,12 +74,6 @@ module _ {D : Type 0} {K : Kind D} (L : Laws K) where
         (λ s. absurd (both-ways (K .below (K .plus y z) (K .plus x z)) p (L .keeps-order b a c h h s)))
         (λ s. s) (cases-bool (K .below y x))
 
-    pub cancel : K .plus x z ≡ K .plus y z → x ≡ y
-    cancel e = ⊎-elim
-        (λ s. absurd (both-ways (K .below (K .plus x z) (K .plus y z)) (le-eq sum-y (sym e)) (L .keeps-order a b c h h s)))
-        (λ s. L .equal-if-neither in-x in-y s (cancel-le (le-eq sum-x e)))
-        (cases-bool (K .below x y))
-
     turn-x : K .plus x z ≡ K .plus z x
     turn-x = L .commutes a c h
 

@@ -1,12 +1,10 @@
 -- What From says of leads, found through the turned view: the rules at nodes and leads, and draining leads.
 use mathlib.Core.Path.{_≡_, sym, ap, subst, _∙_}
-use mathlib.Core.Logic.{_⊎_, inl, inr, ⊎-elim}
 use mathlib.Core.Bool.{true}
 use mathlib.Core.List.{List, reverse}
 use Prim.Native.Nat.{ℕ, _<_}
 use native.Mathlib.Omega.{arith}
-use Rattle.delay.specs.Kind.{Kind, both, most-leads, Laws, Le}
-use Rattle.delay.proofs.Sums.{weaken, same-or-not}
+use Rattle.delay.specs.Kind.{Kind, Laws, Le}
 use Rattle.wiring.specs.declared.Lead.{Lead}
 use Rattle.wiring.specs.Net.{Net, Holds, Sound, hasOut}
 use Rattle.wiring.specs.Paths.{Run, delayOf}
@@ -96,9 +94,3 @@ module _ {D : Type 0} {K : Kind D} (L : Laws K) {N : Net D} (S : Sound K N) wher
     sums-drains k l h e =
         let b = head-inside S k l h in
         record { lead = l; holds = h; at-tail = from (l .tail); at-head = from (l .head); from-tail = T (l .tail) (omega arith); from-head = T (l .head) (b .1); sums = e }
-
-    pub drains-or-not : (k : ℕ) (l : Lead D) → Holds N k l → Drains K N k ⊎ (Drains K N k → ⊥)
-    drains-or-not k l h =
-        let b = head-inside S k l h in
-        ⊎-elim (λ e. inl (sums-drains k l h e)) (λ n. inr (λ f. n (drains-sums k l h f)))
-        (same-or-not L (both {n = most-leads} (omega arith) (lead-sum S k l h) (from-sum S (T (l .head) (b .1)))) (weaken (omega arith) (from-sum S (T (l .tail) (omega arith)))))

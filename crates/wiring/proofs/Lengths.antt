@@ -11,7 +11,7 @@ use Rattle.delay.specs.Kind.{Kind, SumOf, none, both, most-leads, Laws, Le}
 use Rattle.wiring.specs.Net.{Net, Holds, Sound, hasIn, hasOut, isInput, isOutput, isBare}
 use Rattle.wiring.specs.Paths.{Run, stay, along, delayOf}
 use Rattle.wiring.specs.Lengths.{LongestTo, To, LongestFrom, From, Fed}
-use Rattle.delay.proofs.Sums.{weaken, le-anti, plus-le, same-or-not}
+use Rattle.delay.proofs.Sums.{weaken, le-anti, plus-le}
 use Rattle.wiring.proofs.Ends.{one-lead, head-inside, has-out, in-inside, input-parts, output-parts, bare-parts}
 use Rattle.wiring.proofs.Runs.{run-append, run-one, run-in, run-out, run-last, run-to-sum, run-from-sum, lead-sum, delay-last}
 use Rattle.wiring.proofs.Local.{FedIn, LocalTo}
@@ -129,9 +129,3 @@ module _ {D : Type 0} {K : Kind D} (L : Laws K) {N : Net D} (S : Sound K N) wher
     sums-fed k l h e =
         let b = head-inside S k l h in
         record { lead = l; holds = h; at-tail = to (l .tail); at-head = to (l .head); to-tail = T (l .tail) (omega arith); to-head = T (l .head) (b .1); sums = e }
-
-    pub fed-or-not : (k : ℕ) (l : Lead D) → Holds N k l → Fed K N k ⊎ (Fed K N k → ⊥)
-    fed-or-not k l h =
-        let b = head-inside S k l h in
-        ⊎-elim (λ e. inl (sums-fed k l h e)) (λ n. inr (λ f. n (fed-sums k l h f)))
-        (same-or-not L (both {n = most-leads} (omega arith) (to-sum S (T (l .tail) (omega arith))) (lead-sum S k l h)) (weaken (omega arith) (to-sum S (T (l .head) (b .1)))))

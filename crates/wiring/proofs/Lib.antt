@@ -1,6 +1,5 @@
 pub mod Ends
 pub mod Runs
-pub mod Reach
 pub mod Local
 pub mod Lengths
 pub mod Turning

@@ -6,16 +6,15 @@ use mathlib.Core.List.{List, [], _∷_, _++_}
 use Prim.Native.Nat.{ℕ, zero, suc, _+_, _≤_, _<_}
 use native.Mathlib.Omega.{arith}
 use lib.ListN.{length}
-use Rattle.std.proofs.shelf.Tests.{cases-bool}
+use Rattle.std.proofs.shelf.Tests.{cases-bool, both-ways}
 use Rattle.wiring.specs.declared.Lead.{Lead}
 use Rattle.delay.specs.Kind.{Kind, SumOf, one, both, most-leads, Within, Laws, Le}
-use Rattle.wiring.specs.Net.{Net, Holds, Sound, hasIn, hasOut}
+use Rattle.wiring.specs.Net.{Net, Holds, Sound, hasIn, hasOut, isInput}
 use Rattle.wiring.specs.Paths.{Run, stay, along, delayAt, delayOf}
 use Rattle.wiring.specs.Lengths.{LongestTo, To}
 use Rattle.delay.proofs.Sums.{weaken, plus-zero, le-eq, le-trans, plus-le}
-use Rattle.wiring.proofs.Ends.{out-inside, input-parts, is-bare}
+use Rattle.wiring.proofs.Ends.{has-out, out-inside, input-parts, is-input, is-bare}
 use Rattle.wiring.proofs.Runs.{at-delay, run-append, run-one, run-length, run-inside, run-sum, run-to-sum, lawful-at, delay-last}
-use Rattle.wiring.proofs.Reach.{run-starts}
 
 -- a lead into v that makes up the length at v
 pub record FedIn {D : Type 0} (K : Kind D) (N : Net D) (to : ℕ → D) (v : ℕ) : Type 0 where
@@ -50,6 +49,13 @@ record Gives {D : Type 0} (K : Kind D) (N : Net D) (v : ℕ) (x : D) : Type 0 wh
   starts : hasIn N source ≡ false
   run : Run N source v leads
   delay : delayOf K N leads ≡ x
+
+module _ {D : Type 0} {N : Net D} where
+  -- a node without leads in, from which a run goes to a node with leads, is an input
+  run-starts : {u v : ℕ} {ks : List ℕ} → hasIn N u ≡ false → (hasIn N v ≡ true) ⊎ (hasOut N v ≡ true) → Run N u v ks → isInput N u ≡ true
+  run-starts {u} {v} s (inl p) (stay e) = absurd (both-ways (hasIn N u) s (ap (hasIn N) e ∙ p))
+  run-starts {u} {v} s (inr p) (stay e) = is-input N u (ap (hasOut N) e ∙ p) s
+  run-starts {u} {v} s p (along {k = k} l h t r) = is-input N u (has-out N k l u h t) s
 
 module _ {D : Type 0} {K : Kind D} (L : Laws K) {N : Net D} (S : Sound K N) (to : ℕ → D) (T : LocalTo K N to) where
   gives-below : (n v : ℕ) → v < n → v < N .nodes → Gives K N v (to v)
@@ -103,7 +109,7 @@ module _ {D : Type 0} {K : Kind D} (L : Laws K) {N : Net D} (S : Sound K N) (to 
       record {
         source = g .source;
         leads = g .leads;
-        from-input = run-starts S (g .starts) p (g .run);
+        from-input = run-starts (g .starts) p (g .run);
         run = g .run;
         delay = g .delay;
         longest = λ u ks e r.
