@@ -1,10 +1,14 @@
 -- The best loads of a wiring in a load table.
 use Rattle.std.specs.Prelude.{◌≡◌, ℕ, List}
 use Rattle.delay.specs.Kind.{Kind}
-use Rattle.wiring.specs.Net.{Net}
+use Rattle.wiring.specs.Net.{Net, Sound}
 use Rattle.wiring.specs.Lengths.{Marks, Types}
 use Rattle.wiring.specs.Loads.{Best, total_load}
+use Rattle.lengths.specs.declared.table.FillError.{FillError}
+use Rattle.lengths.specs.declared.table.FillError.TheVariants.{Unsound, Short}
+use Rattle.lengths.specs.Check.{Finds}
 use Rattle.marks.specs.Marks.{load_of}
+use Rattle.drawing.specs.Room.{Tables, TableShort}
 
 -- xs are the best loads of N, an entry a place, and total is their total. A wiring has one table of types only and one best loads only,
 -- so there is nothing else that they could be
@@ -29,3 +33,8 @@ pub record BestTotal {D : Type 0} (K : Kind D) (N : Net D) (x : ℕ) : Type 0 wh
   pub loads : ℕ → ℕ
   pub best : Best N marks loads
   pub is : x ≡ total_load N marks loads
+
+-- e is why no loads are found: a fault of the wiring comes before a table that is too short
+abbrev pub NotLoaded : {D : Type 0} → Kind D → Net D → Tables → FillError → Type 0
+NotLoaded K N t (Unsound f) = Finds K N f
+NotLoaded K N t Short = Sound K N × TableShort N t

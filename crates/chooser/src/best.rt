@@ -2,14 +2,13 @@
 ghost use Rattle.std.specs.Prelude.{◌≡◌, ◌-◌, ◌≤◌, length, take, drop, Ok, Err};
 ghost use Rattle.wiring.specs.Net.{Sound};
 ghost use Rattle.lengths.specs.Asked.{Filled};
-ghost use Rattle.lengths.specs.Check.{NotFilled};
 ghost use Rattle.lengths.specs.Tables.{Untouched};
 ghost use Rattle.marks.specs.Marks.{table as table_of, ArcsSound, ArcsFit};
 ghost use Rattle.marks.specs.Shown.{shown};
 ghost use Rattle.filling.specs.Refilled.{Refilled};
-ghost use Rattle.chooser.specs.Loaded.{HoldsBest};
+ghost use Rattle.chooser.specs.Loaded.{HoldsBest, NotLoaded};
 ghost use Rattle.chooser.specs.Ready.{Ready};
-ghost use Rattle.drawing.specs.Room.{RoomFor, TableShort};
+ghost use Rattle.drawing.specs.Room.{RoomFor};
 
 use delay::Delay;
 use filling::measure::{measure_from, measure_to};
@@ -117,7 +116,7 @@ pub fn best_loads<D: Delay, W: Wiring<D>>(
           × Refilled (W.Wiring.net w.now).nodes to.old to.new
           × Refilled (W.Wiring.net w.now).nodes from.old from.new
           × (drop (W.Wiring.net w.now).places loads.new ≡ drop (W.Wiring.net w.now).places loads.old)
-      | Err e ↦ NotFilled D.Delay.kind (W.Wiring.net w.now) (TableShort (W.Wiring.net w.now) (record { to_table = length to.old.table.now; from_table = length from.old.table.now; load_table = length loads.old; mark_table = length marks.old })) e
+      | Err e ↦ NotLoaded D.Delay.kind (W.Wiring.net w.now) (record { to_table = length to.old.table.now; from_table = length from.old.table.now; load_table = length loads.old; mark_table = length marks.old }) e
           × Untouched to.old to.new
           × Untouched from.old from.new
           × (loads.new ≡ loads.old)

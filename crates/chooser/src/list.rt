@@ -3,7 +3,7 @@ ghost use Rattle.std.specs.Prelude.{length};
 ghost use Rattle.wiring.specs.Net.{Sound};
 ghost use Rattle.flow.specs.Loads.{Tight};
 ghost use Rattle.marks.specs.Marks.{classes, load_of, reached_of};
-ghost use Rattle.cover.specs.Arcs.{arc_table as arcs-in};
+ghost use Rattle.cover.specs.Arcs.{arc_table as arcs_in};
 ghost use Rattle.chooser.specs.Ready.{Ready};
 ghost use Rattle.drawing.specs.Room.{RoomFor};
 ghost use Rattle.chooser.specs.Written.{Rows};
@@ -31,7 +31,7 @@ fn write_rows<'a, D: Delay, W: Wiring<D>>(
     witness: &mut [u16],
 ) -> Result<Counts, Refusal>
     requires ready { Ready D.Delay.kind (W.Wiring.net w.now) nodes.now places.now loads.old }
-    requires cut { Tight (arcs-in (W.Wiring.net w.now) (classes places.now)) (load_of loads.old) (reached_of nodes.now) }
+    requires cut { Tight (arcs_in (W.Wiring.net w.now) (classes places.now)) (load_of loads.old) (reached_of nodes.now) }
     ensures { Rows D.Delay.kind (W.Wiring.net w.now) words.old witness.old words.new witness.new result }
 {
     let arcs = arcs_of(places, nodes.len());

@@ -1,6 +1,8 @@
 //! Circuits under edit: the plain sheet and its calls, the sheet file, and the spread, in which
 //! rising and falling edges have nodes and leads of their own. The definitions stand in specs/, and
 //! each function here has what is proved of them for its contract.
+#![tactic(auto)]
+
 ghost use Rattle.circuit.specs.Claims.{HistoriesKeepLimits, RefusedCallsLeave, EditsChangeOnePlace, WrittenSheetsLoad};
 ghost use Rattle.circuit.specs.Claims.{CallsJudgeInOrder, ExamplesStand, SpreadsAreSound, PathsArePairs};
 

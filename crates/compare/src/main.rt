@@ -1,5 +1,7 @@
 //! Reads a series of wirings from standard input, parted by one empty line, and prints the best loads
 //! and the list of each.
+#![tactic(auto)]
+
 use crate::choosing::choose;
 use std::io::Read;
 

@@ -1,6 +1,8 @@
 //! Covering, best loads and lists of paths: what a list of paths must have that covers every lead,
 //! and what shows that no shorter one does. Nothing here computes anything; the contract of each
 //! function is a theorem for every kind of delay.
+#![tactic(auto)]
+
 ghost use Rattle.cover.specs.Claims.{CoveringIsLocal, LoadsAreArcLoads, LoadWithinTotal};
 ghost use Rattle.cover.specs.Claims.{OneBestLoads, NoShorterList, WitnessOfCut, WitnessExists};
 

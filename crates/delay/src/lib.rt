@@ -1,5 +1,7 @@
 //! Kinds of delay. A kind says what a lead's delay is, how delays add up and which of two is
 //! below the other; everything above this crate works for every kind.
+#![tactic(auto)]
+
 ghost use Rattle.std.specs.Prelude.{◌≡◌, ◌+◌, Some};
 ghost use Rattle.delay.specs.Kind.{Kind, Laws, Together};
 ghost use Rattle.delay.specs.Delivered.{picosecond_kind, contact_kind, early_kind};

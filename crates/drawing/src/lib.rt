@@ -1,5 +1,7 @@
 //! The list of paths that is drawn from the best loads of a wiring: there is one, one only, and it
 //! is a smallest cover. No function here computes anything; the contract of each is a theorem.
+#![tactic(auto)]
+
 ghost use Rattle.drawing.specs.Claims.{DrawingEnds, OneList, SameLeadsSameList};
 ghost use Rattle.drawing.specs.Claims.{ListIsSmallestCover, ListByTest};
 ghost use Rattle.drawing.specs.Rows.{RowsAreGiven};

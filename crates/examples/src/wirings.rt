@@ -1,9 +1,7 @@
 //! Small wirings: the turned view, and questions once the lengths are there.
-use chooser::best::best_loads;
 use delay::{Early, Picoseconds};
-use lengths::asked::{classify, longest_path, longest_through};
+use lengths::asked::{classify, longest_through, work_out};
 use lengths::table::Lengths;
-use marks::mark::Mark;
 use wiring::{Lead, Table, Turned, Wiring, turn_round};
 
 fn lead(tail: usize, head: usize, picoseconds: u32) -> Option<Lead<Picoseconds>> {
@@ -48,12 +46,8 @@ fn a_detour_is_not_fed(rt: HostRuntime) {
     let mut from_row = [Picoseconds(9); 3];
     let mut to = Lengths::new(&mut to_row);
     let mut from = Lengths::new(&mut from_row);
-    let mut loads = [9; 4];
-    let mut marks = [Mark::VACANT; 6];
-    let total = best_loads(&table, &mut to, &mut from, &mut loads, &mut marks);
-    assert!(rt; matches!(total, Ok(2)));
-    let longest = longest_path(&table, &mut to, &mut from);
-    assert!(rt; matches!(longest, Some(Picoseconds(3))));
+    let longest = work_out(&table, &mut to, &mut from);
+    assert!(rt; matches!(longest, Ok(Some(Picoseconds(3)))));
     assert_eq!(rt;
         classify(&table, &mut to, &mut from, 0),
         Some((false, true))
@@ -71,7 +65,6 @@ fn a_detour_is_not_fed(rt: HostRuntime) {
         )
     );
     assert_eq!(rt; to.at(3).0, 9, "entries past the nodes stay");
-    assert!(rt; loads == [1, 1, 1, 9], "entries past the places stay");
 }
 
 #[test]
@@ -95,12 +88,8 @@ fn the_early_kind_takes_the_short_way(rt: HostRuntime) {
     let mut from_row = [Early(Picoseconds(0)); 2];
     let mut to = Lengths::new(&mut to_row);
     let mut from = Lengths::new(&mut from_row);
-    let mut loads = [0; 2];
-    let mut marks = [Mark::VACANT; 4];
-    let total = best_loads(&table, &mut to, &mut from, &mut loads, &mut marks);
-    assert!(rt; matches!(total, Ok(2)));
-    let longest = longest_path(&table, &mut to, &mut from);
-    assert!(rt; matches!(longest, Some(Early(Picoseconds(3)))));
+    let longest = work_out(&table, &mut to, &mut from);
+    assert!(rt; matches!(longest, Ok(Some(Early(Picoseconds(3))))));
     assert_eq!(rt;
         classify(&table, &mut to, &mut from, 0),
         Some((false, false))

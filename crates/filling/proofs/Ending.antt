@@ -13,7 +13,7 @@ use Rattle.marks.specs.declared.mark.Mark.{Mark}
 use Rattle.marks.specs.Marks.{blank}
 use Rattle.marks.specs.Links.{arc_at, begin_at, end_at, out_at, into_at, Earliest, belongs, Linked}
 use Rattle.marks.proofs.Following.{head_at, head_some}
-use Rattle.cover.specs.Arcs.{begin_at as begin-of, end_at as end_of_lem, arc_table, highest_node}
+use Rattle.cover.specs.Arcs.{begin_at as begin_of, end_at as end_of_lem, arc_table, highest_node}
 use Rattle.filling.specs.Leads.{Leads, NodeLinks}
 use Rattle.filling.specs.Ends.{EndsOf, HoldsArcs}
 
@@ -47,7 +47,7 @@ module _ {D : Type 0} (N : Net D) where
         let out = has_out N k l l.tail h refl in
         ap (λ b. cond (not (m k).0 || not b) 0 l.tail) into
         ∙ ap (λ b. cond (not (m k).0 || (b && not (has_lead_in N l.tail))) 0 l.tail) (sym out)
-        ∙ ap (begin-of N (m k)) (sym h)
+        ∙ ap (begin_of N (m k)) (sym h)
 
     pub end_by : l.head < length ns → cond (not (m k).1 || not (is_some (out_at ns l.head))) (highest_node N) l.head ≡ (arc_table N m).end k
     end_by i =
@@ -59,7 +59,7 @@ module _ {D : Type 0} (N : Net D) where
 
   -- at a vacant place
   pub ends_none : (m : Marks) (k : ℕ) → N.at k ≡ None → m k ≡ (false, false) → EndsOf N m k blank
-  ends_none m k e v = record { arc = sym (ap stands e); begin = sym (ap (begin-of N (m k)) e); end = sym (ap (end_of_lem N (m k)) e); class = sym v }
+  ends_none m k e v = record { arc = sym (ap stands e); begin = sym (ap (begin_of N (m k)) e); end = sym (ap (end_of_lem N (m k)) e); class = sym v }
 
   -- all places are filled
   pub ends_all : (m : Marks) (ps : List Mark) → length ps ≡ N.places → ((k : ℕ) → N.places ≤ k → m k ≡ (false, false)) →

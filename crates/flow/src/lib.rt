@@ -1,5 +1,7 @@
 //! Loads on tables of arcs: what cuts show of them, and that a table has just one best loads.
 //! Nothing here computes anything; the contract of each function is a theorem.
+#![tactic(auto)]
+
 ghost use Rattle.flow.specs.Claims.{CutIdentity, LoadWithinTotal, TightCutShowsLeast};
 ghost use Rattle.flow.specs.Claims.{TightCutExists, SettledCutShowsFirst, OneBestOfTable, BestByTest};
 

@@ -1,4 +1,6 @@
 //! Prints what there is to tell of every wiring whose file is named, a heading before each.
+#![tactic(auto)]
+
 use std::{env, fs};
 use survey::reporting::report;
 

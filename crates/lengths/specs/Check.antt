@@ -42,10 +42,10 @@ Finds K N Size = (4096 < N.nodes) ⊎ (4096 < N.places)
 Finds K N (Ends k) = FirstFault K N k (Ends k)
 Finds K N (Delay k) = FirstFault K N k (Delay k)
 
--- e is why tables are not filled: a fault of the wiring comes before want of room; where a table is too short, Lacking says of what
-abbrev pub NotFilled : {D : Type 0} → Kind D → Net D → Type 0 → FillError → Type 0
-NotFilled K N Lacking (Unsound f) = Finds K N f
-NotFilled K N Lacking Short = Sound K N × Lacking
+-- e is why a table of n entries is not filled: a fault of the wiring comes before want of room
+abbrev pub NotFilled : {D : Type 0} → Kind D → Net D → ℕ → FillError → Type 0
+NotFilled K N n (Unsound f) = Finds K N f
+NotFilled K N n Short = Sound K N × (n < N.nodes)
 
 -- the refusal under which a fault is reported
 abbrev pub refusal_of : Fault → Refusal

@@ -13,4 +13,4 @@ fault_text (Delay k) = codes "lead " ++ (decimal k ++ codes " has a delay that i
 
 abbrev pub fill_error_text : FillError → List ℕ
 fill_error_text (Unsound f) = fault_text f
-fill_error_text Short = codes "a table is too short"
+fill_error_text Short = codes "a length table is too short"

@@ -1,18 +1,20 @@
 //! What is asked of a wiring once its two length tables are filled: the type of a lead, and the
 //! longest path through it and of all.
-ghost use Rattle.std.specs.Prelude.{◌≡◌};
-ghost use Rattle.delay.specs.Kind.{level as level-of};
+ghost use Rattle.std.specs.Prelude.{◌≡◌, ◌<◌, ◌≤◌, min, length, drop, Ok, Err};
+ghost use Rattle.delay.specs.Kind.{level as level_of};
 ghost use Rattle.wiring.specs.Lengths.{type_by, through_by};
+ghost use Rattle.lengths.specs.Check.{NotFilled};
 ghost use Rattle.lengths.specs.Tables.{entry, Untouched};
 ghost use Rattle.lengths.specs.Asked.{Filled, of_lead, TypeOf, ThroughOf, LongestOf};
 
-use crate::table::{Lengths, longer};
+use crate::check::check;
+use crate::table::{FillError, Lengths, longer};
 use delay::Delay;
 use wiring::Wiring;
 
 // Whether neither delay is below the other.
 fn level<D: Delay>(x: D, y: D) -> bool
-    ensures { result ≡ level-of D.Delay.kind x y }
+    ensures { result ≡ level_of D.Delay.kind x y }
 {
     !x.below(y) && !y.below(x)
 }
@@ -70,4 +72,34 @@ pub fn longest_path<D: Delay, W: Wiring<D>>(
         }
     }
     best
+}
+
+/// Checks a wiring, fills both length tables, and answers the delay of a longest path, or nothing
+/// where there is no path. A refusal leaves both tables as they were.
+pub fn work_out<D: Delay, W: Wiring<D>>(
+    w: &W,
+    to: &mut Lengths<D>,
+    from: &mut Lengths<D>,
+) -> Result<Option<D>, FillError>
+    ensures answer { elim result [
+      | Ok longest ↦ LongestOf D.Delay.kind (W.Wiring.net w.now) longest
+          × Filled D.Delay.kind (W.Wiring.net w.now) to.new.table.now from.new.table.now
+          × ((W.Wiring.net w.now).nodes ≤ min (length to.old.table.now) (length from.old.table.now))
+          × (drop (W.Wiring.net w.now).nodes to.new.table.now ≡ drop (W.Wiring.net w.now).nodes to.old.table.now)
+          × (drop (W.Wiring.net w.now).nodes from.new.table.now ≡ drop (W.Wiring.net w.now).nodes from.old.table.now)
+      | Err e ↦ NotFilled D.Delay.kind (W.Wiring.net w.now) (min (length to.old.table.now) (length from.old.table.now)) e
+          × (to.new.table.now ≡ to.old.table.now)
+          × (from.new.table.now ≡ from.old.table.now)
+    ] }
+    ensures to_lender { to.new.table.ghost_name ≡ to.old.table.ghost_name }
+    ensures from_lender { from.new.table.ghost_name ≡ from.old.table.ghost_name }
+{
+    check(w)?;
+    let nodes = w.nodes();
+    if to.len() < nodes || from.len() < nodes {
+        return Err(FillError::Short);
+    }
+    to.put_to(w);
+    from.put_from(w);
+    Ok(longest_path(w, to, from))
 }

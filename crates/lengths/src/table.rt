@@ -1,20 +1,22 @@
 //! Tables of longest lengths, one entry a node, for every kind of delay.
-ghost use Rattle.std.specs.Prelude.{◌≡◌, length};
+ghost use Rattle.std.specs.Prelude.{◌≡◌, ℕ, ◌-◌, ◌<◌, ◌≤◌, length, drop, Ok, Err, slice_index_or};
 ghost use Rattle.lengths.specs.declared.table.FillError.TheVariants.{Unsound};
-ghost use Rattle.lengths.specs.Check.{refusal_for};
-ghost use Rattle.lengths.specs.Tables.{entry, Untouched};
-ghost use Rattle.lengths.specs.Steps.{longer_of};
+ghost use Rattle.wiring.specs.Net.{Sound};
+ghost use Rattle.lengths.specs.Check.{NotFilled, refusal_for};
+ghost use Rattle.lengths.specs.Tables.{entry, HoldsTo, HoldsFrom, Untouched};
+ghost use Rattle.lengths.specs.Steps.{longer_of, LengthAt};
 
-use crate::check::Fault;
+use crate::check::{Fault, check};
 use delay::Delay;
 use wiring::refusals::Refusal;
+use wiring::{Turned, Wiring, turn_round};
 
-/// Why tables are not filled from a wiring.
+/// Why a length table is not filled.
 #[derive(Clone, Copy)]
 pub enum FillError {
     /// the wiring breaks a limit
     Unsound(Fault),
-    /// a table has fewer entries than the wiring needs
+    /// the table has fewer entries than the wiring has nodes
     Short,
 }
 
@@ -56,6 +58,51 @@ pub fn longer<D: Delay>(best: Option<D>, d: D) -> D
     }
 }
 
+// The length at v by way of the leads into it and the lengths of the nodes below it.
+fn length_at<D: Delay, W: Wiring<D>>(w: &W, table: &[D], v: usize) -> D
+    requires sound { Sound D.Delay.kind (W.Wiring.net w.now) }
+    requires room { (W.Wiring.net w.now).nodes ≤ length table.now }
+    requires inside { v < (W.Wiring.net w.now).nodes }
+    requires lower { (u : ℕ) → u < v → LengthAt D.Delay.kind (W.Wiring.net w.now) (entry D.Delay.kind table.now) u (entry D.Delay.kind table.now u) }
+    ensures { LengthAt D.Delay.kind (W.Wiring.net w.now) (entry D.Delay.kind table.now) v result }
+{
+    let mut best: Option<D> = None;
+    for place in 0..w.places() {
+        if let Some(l) = w.lead(place) {
+            if l.head == v {
+                best = Some(longer(best, table[l.tail].plus(l.delay)));
+            }
+        }
+    }
+    match best {
+        Some(b) => b,
+        None => D::zero(),
+    }
+}
+
+// Fills the first entries with To, node by node: leads run upwards, so what a node needs is there.
+fn fill_row<D: Delay, W: Wiring<D>>(w: &W, table: &mut [D])
+    requires sound { Sound D.Delay.kind (W.Wiring.net w.now) }
+    requires room { (W.Wiring.net w.now).nodes ≤ length table.old }
+    ensures filled { HoldsTo D.Delay.kind (W.Wiring.net w.now) table.new }
+    ensures rest { drop (W.Wiring.net w.now).nodes table.new ≡ drop (W.Wiring.net w.now).nodes table.old }
+{
+    for v in 0..w.nodes() {
+        let d = length_at(w, table, v);
+        table[v] = d;
+    }
+}
+
+// Turns the first n entries round.
+fn mirror_row<D>(table: &mut [D], n: usize)
+    requires { n ≤ length table.old }
+    ensures turned { (k : ℕ) (d : D) → k < n → slice_index_or table.new k d ≡ slice_index_or table.old (n - 1 - k) d }
+    ensures rest { drop n table.new ≡ drop n table.old }
+{
+    let part = &mut table[0..n];
+    part.reverse();
+}
+
 /// A table of lengths over a lent slice, asked by node number.
 #[derive(Drop)]
 pub struct Lengths<'a, D> {
@@ -84,5 +131,71 @@ impl<'a, D: Delay> Lengths<'a, D> {
         ensures { result ≡ length self.now.table.now }
     {
         self.table.len()
+    }
+
+    // Fills the table with To, where the wiring is sound and the table long enough.
+    pub(crate) fn put_to<W: Wiring<D>>(&mut self, w: &W)
+        requires sound { Sound D.Delay.kind (W.Wiring.net w.now) }
+        requires room { (W.Wiring.net w.now).nodes ≤ length self.old.table.now }
+        ensures filled { HoldsTo D.Delay.kind (W.Wiring.net w.now) self.new.table.now }
+        ensures rest { drop (W.Wiring.net w.now).nodes self.new.table.now ≡ drop (W.Wiring.net w.now).nodes self.old.table.now }
+        ensures lender { self.new.table.ghost_name ≡ self.old.table.ghost_name }
+    {
+        fill_row(w, self.table);
+    }
+
+    // The same with From: To of the turned view, read backwards.
+    pub(crate) fn put_from<W: Wiring<D>>(&mut self, w: &W)
+        requires sound { Sound D.Delay.kind (W.Wiring.net w.now) }
+        requires room { (W.Wiring.net w.now).nodes ≤ length self.old.table.now }
+        ensures filled { HoldsFrom D.Delay.kind (W.Wiring.net w.now) self.new.table.now }
+        ensures rest { drop (W.Wiring.net w.now).nodes self.new.table.now ≡ drop (W.Wiring.net w.now).nodes self.old.table.now }
+        ensures lender { self.new.table.ghost_name ≡ self.old.table.ghost_name }
+    {
+        let turned = turn_round(w);
+        fill_row::<D, Turned<W>>(&turned, self.table);
+        mirror_row(self.table, w.nodes());
+    }
+
+    /// Fills the table with To of every node of the wiring. Entries past the nodes stay; a wiring
+    /// that breaks a limit, or a table that is too short, is refused and the table stays whole.
+    pub fn fill_to<W: Wiring<D>>(&mut self, w: &W) -> Result<(), FillError>
+        ensures answer { elim result [
+          | Ok _ ↦ Sound D.Delay.kind (W.Wiring.net w.now)
+              × ((W.Wiring.net w.now).nodes ≤ length self.old.table.now)
+              × HoldsTo D.Delay.kind (W.Wiring.net w.now) self.new.table.now
+              × (drop (W.Wiring.net w.now).nodes self.new.table.now ≡ drop (W.Wiring.net w.now).nodes self.old.table.now)
+          | Err e ↦ NotFilled D.Delay.kind (W.Wiring.net w.now) (length self.old.table.now) e
+              × (self.new.table.now ≡ self.old.table.now)
+        ] }
+        ensures lender { self.new.table.ghost_name ≡ self.old.table.ghost_name }
+    {
+        check(w)?;
+        if self.len() < w.nodes() {
+            return Err(FillError::Short);
+        }
+        self.put_to(w);
+        Ok(())
+    }
+
+    /// Fills the table with From of every node of the wiring, by the same search on the turned
+    /// view. What stays and what is refused is as in `fill_to`.
+    pub fn fill_from<W: Wiring<D>>(&mut self, w: &W) -> Result<(), FillError>
+        ensures answer { elim result [
+          | Ok _ ↦ Sound D.Delay.kind (W.Wiring.net w.now)
+              × ((W.Wiring.net w.now).nodes ≤ length self.old.table.now)
+              × HoldsFrom D.Delay.kind (W.Wiring.net w.now) self.new.table.now
+              × (drop (W.Wiring.net w.now).nodes self.new.table.now ≡ drop (W.Wiring.net w.now).nodes self.old.table.now)
+          | Err e ↦ NotFilled D.Delay.kind (W.Wiring.net w.now) (length self.old.table.now) e
+              × (self.new.table.now ≡ self.old.table.now)
+        ] }
+        ensures lender { self.new.table.ghost_name ≡ self.old.table.ghost_name }
+    {
+        check(w)?;
+        if self.len() < w.nodes() {
+            return Err(FillError::Short);
+        }
+        self.put_from(w);
+        Ok(())
     }
 }

@@ -31,7 +31,7 @@ impl fmt::Display for FillError {
     fn fmt<W: fmt::Write>(&self, f: &mut fmt::Formatter<W>) -> fmt::Result {
         match self {
             FillError::Unsound(fault) => write!(f, "{fault}"),
-            FillError::Short => write!(f, "a table is too short"),
+            FillError::Short => write!(f, "a length table is too short"),
         }
     }
 }

@@ -1,5 +1,5 @@
 -- Looks along the links of the arcs that begin at a node.
-use Rattle.std.proofs.Common.{◌≡◌, ℕ, ◌+◌, ◌-◌, ◌<◌, ◌≤◌, true, false, eqb, ltb, length, Some, None, Option, sym, ap, subst, ⊎_elim, arith}
+use Rattle.std.proofs.Common.{◌≡◌, ℕ, ◌+◌, ◌<◌, ◌≤◌, true, false, eqb, ltb, length, Some, None, Option, sym, ap, subst, ⊎_elim, arith}
 use Rattle.std.proofs.lemmas.List.{get_or_past}
 use Rattle.std.proofs.lemmas.Bool.{cases_lt, cases_order, both_ways, and_from, and_parts, and_left, and_right, eqb-true}
 use Rattle.flow.specs.Table.{Table, begins}

@@ -1,5 +1,7 @@
 //! Draws the list of paths of a wiring from what is left of its loads, along the links between the
 //! arcs of each node: `count` tells how long the list is, `list` writes it.
+#![tactic(auto)]
+
 mod cores;
 pub mod count;
 pub mod links;

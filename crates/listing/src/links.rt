@@ -1,6 +1,6 @@
 //! The arcs of a wiring with their links, and what is looked up along these.
 ghost use Rattle.std.specs.Prelude.{◌≡◌, ◌<◌, length, nat_lt};
-ghost use Rattle.flow.specs.Table.{begins as begins-at, ends as ends_at};
+ghost use Rattle.flow.specs.Table.{begins as begins_at, ends as ends_at};
 ghost use Rattle.marks.specs.Marks.{load_of};
 ghost use Rattle.marks.specs.Links.{link_at};
 ghost use Rattle.marks.specs.Shown.{shown};
@@ -21,7 +21,7 @@ pub struct Links<'a> {
 /// Whether the place has a start lead: an arc that begins at the source.
 pub(crate) fn is_start(arcs: Arcs, place: usize) -> bool
     requires { place < length arcs.marks.now }
-    ensures { result ≡ begins-at (shown arcs.entry) arcs.entry.source place }
+    ensures { result ≡ begins_at (shown arcs.entry) arcs.entry.source place }
 {
     let mark = arcs.marks[place];
     mark.arc && mark.begin as usize == arcs.source

@@ -1,6 +1,8 @@
 //! The best loads of a table of arcs, settled on lent slices, and the cut that shows their total to be
 //! the least. Once the arcs are linked, `first_loads` fills the load table, `settle` turns it into the
 //! best loads, `mark_cut` marks the cut, and `write_witness` lists the arcs that enter it.
+#![tactic(auto)]
+
 mod best;
 mod cut;
 mod first;

@@ -99,7 +99,7 @@ fn read_wire(kind: KindName, line: &[u8]) -> Option<Wire>
 pub fn read_place(kind: KindName, line: &[u8]) -> Option<Option<Wire>>
     ensures { Exactly (PlaceInRange kind) (place_text kind) line.now result }
 {
-    if line == b"-" {
+    if line == b"-".as_slice() {
         return Some(None);
     }
     Some(Some(read_wire(kind, line)?))

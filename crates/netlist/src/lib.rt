@@ -3,6 +3,8 @@
 //! The first line names the kind of delay, the second has the number of nodes, and each further
 //! line is a place: `-` where it is vacant, or a lead, as `0-2:3`. Under the kind `contact` a lead
 //! also has its contacts, as `0-2:3/1`. A number is decimal, with no sign and no leading zero.
+#![tactic(auto)]
+
 ghost use Rattle.std.specs.Prelude.{◌≡◌, Some};
 ghost use Rattle.netlist.specs.declared.ReadError.TheVariants.{NoMemory};
 ghost use Rattle.netlist.specs.Texts.{kind_text};

@@ -1,4 +1,6 @@
 //! The chooser behind C functions, one for each kind of delay, so that other programs can call it.
+#![tactic(auto)]
+
 ghost use Rattle.std.specs.Prelude.{◌≡◌};
 ghost use Rattle.delay.specs.Delivered.{picosecond_kind, contact_kind, early_kind};
 ghost use Rattle.probe.specs.declared.ProbeError.TheVariants.{Refused as RefusedBy, NoMemory};

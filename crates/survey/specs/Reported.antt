@@ -34,7 +34,7 @@ wiring_of K n = table_net n.nodes (map (place_of K) (vec_items n.places))
 abbrev pub ReportedAs : {D T : Type 0} → Kind D → Netlist → Result T ReportError → Type 0
 ReportedAs K n (Ok text) = Sound K (wiring_of K n)
 ReportedAs K n (Err (Text e)) = ⊥
-ReportedAs K n (Err (Wiring (Refused e))) = NotFilled K (wiring_of K n) ⊥ e
+ReportedAs K n (Err (Wiring (Refused e))) = NotFilled K (wiring_of K n) n.nodes e
 ReportedAs K n (Err (Wiring NoMemory)) = Unit {0}
 
 -- the same under the kind that the netlist names

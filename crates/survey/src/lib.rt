@@ -1,5 +1,7 @@
-//! The survey of a wiring: lengths of all nodes, types and best loads of all leads, and longest paths,
-//! as a value that is proved, and as text.
+//! The survey of a wiring: lengths of all nodes, types of all leads and longest paths, as a value
+//! that is proved, and as text.
+#![tactic(auto)]
+
 ghost use Rattle.std.specs.Prelude.{◌≡◌};
 ghost use Rattle.survey.specs.declared.SurveyError.TheVariants.{NoMemory, Refused as RefusedBy};
 ghost use Rattle.lengths.specs.declared.table.FillError.TheVariants.{Unsound};
@@ -20,24 +22,21 @@ pub struct NodeRow<D> {
     pub from: D,
 }
 
-/// A lead with its type, the delay of a longest path through it, and its best load.
+/// A lead with its type and the delay of a longest path through it.
 #[derive(Clone, Copy)]
 pub struct LeadRow<D> {
     pub lead: Lead<D>,
     pub drains: bool,
     pub fed: bool,
     pub longest: D,
-    pub load: u16,
 }
 
-/// What there is to tell of a wiring: a row a node, a row a place, the delay of a longest path, and
-/// the total of the best loads.
+/// What there is to tell of a wiring: a row a node, a row a place, and the delay of a longest path.
 #[derive(Drop)]
 pub struct Survey<D> {
     pub nodes: Vec<NodeRow<D>>,
     pub places: Vec<Option<LeadRow<D>>>,
     pub longest: Option<D>,
-    pub total: usize,
 }
 
 /// Why there is no survey.

@@ -13,8 +13,7 @@ fn mark(yes: bool) -> char
     if yes { 'y' } else { 'n' }
 }
 
-// Ends, delay and type of a lead, the longest path through it and its best load, as
-// `0-2:3 type yy path 3 load 1`.
+// Ends, delay and type of a lead, and the longest path through it, as `0-2:3 type yy path 3`.
 impl<D: Delay + fmt::Display> fmt::Display for LeadRow<D> {
     fn fmt<W: fmt::Write>(&self, f: &mut fmt::Formatter<W>) -> fmt::Result {
         let tail = self.lead.tail;
@@ -23,16 +22,11 @@ impl<D: Delay + fmt::Display> fmt::Display for LeadRow<D> {
         let drains = mark(self.drains);
         let fed = mark(self.fed);
         let path = self.longest;
-        let load = self.load;
-        write!(
-            f,
-            "{tail}-{head}:{delay} type {drains}{fed} path {path} load {load}"
-        )
+        write!(f, "{tail}-{head}:{delay} type {drains}{fed} path {path}")
     }
 }
 
-// A line for each count, node and place, one for the longest path, and a last one for the total of
-// the best loads.
+// A line for each count, node and place, and a last one for the longest path.
 impl<D: Delay + fmt::Display> fmt::Display for Survey<D> {
     fn fmt<W: fmt::Write>(&self, f: &mut fmt::Formatter<W>) -> fmt::Result {
         let nodes = self.nodes.len();
@@ -42,11 +36,9 @@ impl<D: Delay + fmt::Display> fmt::Display for Survey<D> {
         write_nodes(self, f)?;
         write_places(self, f)?;
         match self.longest {
-            Some(delay) => writeln!(f, "longest {delay}")?,
-            None => writeln!(f, "no path")?,
+            Some(delay) => writeln!(f, "longest {delay}"),
+            None => writeln!(f, "no path"),
         }
-        let total = self.total;
-        writeln!(f, "total {total}")
     }
 }
 

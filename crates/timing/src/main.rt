@@ -1,4 +1,6 @@
 //! Reads the text of a wiring from standard input and prints its survey.
+#![tactic(auto)]
+
 use anyhow::anyhow;
 use std::io::Read;
 use survey::reporting::report;

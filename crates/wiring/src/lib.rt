@@ -1,4 +1,6 @@
 //! Wirings: a number of nodes, a number of places, and at each place nothing or one lead.
+#![tactic(auto)]
+
 ghost use Rattle.std.specs.Prelude.{◌≡◌};
 ghost use Rattle.wiring.specs.Net.{Net};
 ghost use Rattle.wiring.specs.Views.{table_net, turned_net, Turning};

@@ -16,8 +16,8 @@ use Rattle.filling.specs.Ends.{HoldsArcs}
 use Rattle.chooser.proofs.Shown.{shown_arcs, arcs_right, arcs_fit}
 use Rattle.chooser.proofs.best.find_loads.Goals as goal
 
-pub arcs-of-arcs-requires : goal.arcs-of-arcs-requires
-arcs-of-arcs-requires g c =
+pub arcs_of-arcs-requires : goal.arcs_of-arcs-requires
+arcs_of-arcs-requires g c =
     let K = g.D.Delay.kind in let N = g.W.Wiring.net c.args.w.now in
     let m : Marks = marks_of K N (entry K c.prepare.new.to.table.now) (entry K c.prepare.new.from.table.now) in
     let n : length c.prepare.new.nodes ≡ N.nodes = omega (arith, c.requires.nodes) in
@@ -27,8 +27,8 @@ arcs-of-arcs-requires g c =
       fits = arcs_fit c.requires.sound c.requires.two m c.prepare.new.places c.prepare.ensures.arcs _ _ n t;
     }
 
-pub first-loads-requires : goal.first-loads-requires
-first-loads-requires g c =
+pub first_loads-requires : goal.first_loads-requires
+first_loads-requires g c =
     let K = g.D.Delay.kind in let L = g.met.D.Delay.laws in let N = g.W.Wiring.net c.args.w.now in
     let to = c.prepare.new.to.table.now in let from = c.prepare.new.from.table.now in
     let m : Marks = marks_of K N (entry K to) (entry K from) in
@@ -36,11 +36,11 @@ first-loads-requires g c =
     let W = tables K L N to from F in
     let n : length c.prepare.new.nodes ≡ N.nodes = omega (arith, c.requires.nodes) in
     let t : length c.prepare.new.nodes - 1 ≡ N.nodes - 1 = omega arith in
-    let same : shown c.arcs-of-arcs.result ≡ arc_table N m =
-    c.arcs-of-arcs.ensures.shown ∙ shown_arcs c.requires.sound c.requires.two m c.prepare.new.places c.prepare.ensures.arcs _ _ n t in
-    let at = c.arcs-of-arcs.ensures.places in
+    let same : shown c.arcs_of-arcs.result ≡ arc_table N m =
+    c.arcs_of-arcs.ensures.shown ∙ shown_arcs c.requires.sound c.requires.two m c.prepare.new.places c.prepare.ensures.arcs _ _ n t in
+    let at = c.arcs_of-arcs.ensures.places in
     record {
-      nodes = sym c.arcs-of-arcs.ensures.nodes;
+      nodes = sym c.arcs_of-arcs.ensures.nodes;
       places = c.requires.loads ∙ sym c.prepare.ensures.arcs.places ∙ sym (ap length at);
       linked = subst (λ (ps : List Mark). Linked ps c.prepare.new.nodes 0) (sym at) c.prepare.ensures.linked;
       joined = subst Joined (sym same) (arcs_joined L c.requires.sound W (types_by_tables L c.requires.sound W));
@@ -54,8 +54,8 @@ returns g c =
     let P = c.prepare.ensures in
     let n : length c.prepare.new.nodes ≡ N.nodes = omega (arith, c.requires.nodes) in
     let t : length c.prepare.new.nodes - 1 ≡ N.nodes - 1 = omega arith in
-    let same : shown c.arcs-of-arcs.result ≡ arc_table N m =
-    c.arcs-of-arcs.ensures.shown ∙ shown_arcs c.requires.sound c.requires.two m c.prepare.new.places P.arcs _ _ n t in
+    let same : shown c.arcs_of-arcs.result ≡ arc_table N m =
+    c.arcs_of-arcs.ensures.shown ∙ shown_arcs c.requires.sound c.requires.two m c.prepare.new.places P.arcs _ _ n t in
     let found : BestLoads N m (load_of c.settle.new.loads) =
     arcs_to_best c.requires.sound m (load_of c.settle.new.loads)
     (subst (λ (T : Table). Best T (load_of c.settle.new.loads)) same c.settle.ensures.best) in
@@ -70,9 +70,9 @@ returns g c =
         loads = omega (arith, c.settle.auto.loads, c.requires.loads);
         types = subst (Types K N) typed (types_by_tables L c.requires.sound W);
         arcs = subst (λ (x : Marks). HoldsArcs N x c.prepare.new.places) typed P.arcs;
-        linked = subst (λ (ps : List Mark). Linked ps c.settle.new.nodes 0) c.arcs-of-arcs.ensures.places c.settle.ensures.linked;
+        linked = subst (λ (ps : List Mark). Linked ps c.settle.new.nodes 0) c.arcs_of-arcs.ensures.places c.settle.ensures.linked;
         best = subst (λ (x : Marks). BestLoads N x (load_of c.settle.new.loads)) typed found;
       };
-      to-rest = P.to-rest;
-      from-rest = P.from-rest;
+      to_rest = P.to_rest;
+      from_rest = P.from_rest;
     }

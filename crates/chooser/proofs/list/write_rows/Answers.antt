@@ -1,5 +1,5 @@
 use Rattle.std.proofs.Common.{◌≡◌, ℕ, ◌-◌, List, length, sym, refl, ap, ◌∙◌, subst, arith}
-use Rattle.wiring.specs.Lists.{Draws, Witness, words}
+use Rattle.wiring.specs.Lists.{Draws, Witness}
 use Rattle.wiring.specs.Loads.{Loads}
 use Rattle.marks.specs.declared.mark.Mark.{Mark}
 use Rattle.marks.specs.Marks.{classes, load_of}
@@ -10,72 +10,72 @@ use Rattle.chooser.proofs.Shown.{arcs_right, arcs_fit}
 use Rattle.chooser.proofs.Listing.{ready_shows, drawn, is_list, paths_number, words_short, witness_short, shown_witness}
 use Rattle.chooser.proofs.list.write_rows.Goals as goal
 
-pub arcs-of-arcs-requires : goal.arcs-of-arcs-requires
-arcs-of-arcs-requires g c =
+pub arcs_of-arcs-requires : goal.arcs_of-arcs-requires
+arcs_of-arcs-requires g c =
     let R = c.requires.ready in let ps = c.args.places.now in let n = length c.args.nodes.now in
     record {
       sound = arcs_right R.sound R.two (classes ps) ps R.arcs n (n - 1) R.nodes (ap (λ k. k - 1) R.nodes);
       fits = arcs_fit R.sound R.two (classes ps) ps R.arcs n (n - 1) R.nodes (ap (λ k. k - 1) R.nodes);
     }
 
-pub count-words-requires : goal.count-words-requires
-count-words-requires g c =
-    let R = c.requires.ready in let A = c.arcs-of-arcs.ensures in
+pub count_words-requires : goal.count_words-requires
+count_words-requires g c =
+    let R = c.requires.ready in let A = c.arcs_of-arcs.ensures in
     record {
-      shows = ready_shows g.met.D.Delay.laws R c.arcs-of-arcs.result A.places A.shown
-          (record { arcs = c.arcs-of-arcs.result; nodes = c.args.nodes }) refl refl A.nodes;
+      shows = ready_shows g.met.D.Delay.laws R c.arcs_of-arcs.result A.places A.shown
+          (record { arcs = c.arcs_of-arcs.result; nodes = c.args.nodes }) refl refl A.nodes;
       places = R.loads ∙ sym R.arcs.places ∙ sym (ap length A.places);
     }
 
-pub returns-then-count-words-words : goal.returns-then-count-words-words
-returns-then-count-words-words g c =
-    let A = c.arcs-of-arcs.ensures in (
+pub returns-then-count_words-words : goal.returns-then-count_words-words
+returns-then-count_words-words g c =
+    let A = c.arcs_of-arcs.ensures in (
       refl,
-      words_short g.met.D.Delay.laws c.requires.ready c.arcs-of-arcs.result A.places A.shown
-          (record { arcs = c.arcs-of-arcs.result; nodes = c.args.nodes }) refl c.args.words.now c.args.witness.now
-          c.count-words.result c.count-words.ensures c.if-count-words-words.true,
-      refl,
-      refl,
-    )
-
-pub count-paths-requires : goal.count-paths-requires
-count-paths-requires g c = let R = c.requires.ready in R.loads ∙ sym R.arcs.places ∙ sym (ap length c.arcs-of-arcs.ensures.places)
-
-pub returns-then-count-paths-witness : goal.returns-then-count-paths-witness
-returns-then-count-paths-witness g c =
-    let A = c.arcs-of-arcs.ensures in (
-      refl,
-      witness_short g.met.D.Delay.laws c.requires.ready c.arcs-of-arcs.result A.places A.shown c.args.words.now c.args.witness.now
-          c.count-paths.result c.count-paths.ensures c.if-count-paths-witness.true,
+      words_short g.met.D.Delay.laws c.requires.ready c.arcs_of-arcs.result A.places A.shown
+          (record { arcs = c.arcs_of-arcs.result; nodes = c.args.nodes }) refl c.args.words.now c.args.witness.now
+          c.count_words.result c.count_words.ensures c.if-count_words-words.true,
       refl,
       refl,
     )
 
-pub write-witness-leads-requires : goal.write-witness-leads-requires
-write-witness-leads-requires g c =
-    let A = c.arcs-of-arcs.ensures in let L = g.met.D.Delay.laws in let R = c.requires.ready in let a = c.arcs-of-arcs.result in
+pub count_paths-requires : goal.count_paths-requires
+count_paths-requires g c = let R = c.requires.ready in R.loads ∙ sym R.arcs.places ∙ sym (ap length c.arcs_of-arcs.ensures.places)
+
+pub returns-then-count_paths-witness : goal.returns-then-count_paths-witness
+returns-then-count_paths-witness g c =
+    let A = c.arcs_of-arcs.ensures in (
+      refl,
+      witness_short g.met.D.Delay.laws c.requires.ready c.arcs_of-arcs.result A.places A.shown c.args.words.now c.args.witness.now
+          c.count_paths.result c.count_paths.ensures c.if-count_paths-witness.true,
+      refl,
+      refl,
+    )
+
+pub write_witness-leads-requires : goal.write_witness-leads-requires
+write_witness-leads-requires g c =
+    let A = c.arcs_of-arcs.ensures in let L = g.met.D.Delay.laws in let R = c.requires.ready in let a = c.arcs_of-arcs.result in
     let W = shown_witness L R a A.places A.shown c.requires.cut in
     record {
       nodes = sym A.nodes;
-      room = omega (arith, W.count, paths_number L R a A.places A.shown, c.count-paths.ensures, c.if-count-paths-witness.false);
+      room = omega (arith, W.count, paths_number L R a A.places A.shown, c.count_paths.ensures, c.if-count_paths-witness.false);
     }
 
-pub write-list-requires : goal.write-list-requires
-write-list-requires g c =
-    let A = c.arcs-of-arcs.ensures in let R = c.requires.ready in let N = g.W.Wiring.net c.args.w.now in
+pub write_list-requires : goal.write_list-requires
+write_list-requires g c =
+    let A = c.arcs_of-arcs.ensures in let R = c.requires.ready in let N = g.W.Wiring.net c.args.w.now in
     record {
-      shows = ready_shows g.met.D.Delay.laws R c.arcs-of-arcs.result A.places A.shown
-          (record { arcs = c.arcs-of-arcs.result; nodes = c.args.nodes }) refl refl A.nodes;
+      shows = ready_shows g.met.D.Delay.laws R c.arcs_of-arcs.result A.places A.shown
+          (record { arcs = c.arcs_of-arcs.result; nodes = c.args.nodes }) refl refl A.nodes;
       places = R.loads ∙ sym R.arcs.places ∙ sym (ap length A.places);
       loads = subst (λ (qs : List Mark). Loads N (classes qs) (load_of c.args.loads.now)) (sym A.places) R.best.loads;
-      room = λ qs d. omega (arith, c.count-words.ensures qs d, c.if-count-words-words.false);
+      room = λ qs d. omega (arith, c.count_words.ensures qs d, c.if-count_words-words.false);
     }
 
 pub returns : goal.returns
 returns g c =
-    let A = c.arcs-of-arcs.ensures in let L = g.met.D.Delay.laws in let R = c.requires.ready in let a = c.arcs-of-arcs.result in
+    let A = c.arcs_of-arcs.ensures in let L = g.met.D.Delay.laws in let R = c.requires.ready in let a = c.arcs_of-arcs.result in
     let K = g.D.Delay.kind in let N = g.W.Wiring.net c.args.w.now in let xs = c.args.loads.now in let ps = c.args.places.now in
-    let P = c.write-list.ensures.list in
+    let P = c.write_list.ensures.list in
     let d : Draws N (classes ps) (load_of xs) P.list = subst (λ (qs : List Mark). Draws N (classes qs) (load_of xs) P.list) A.places P.draws in
     let T = drawn L R a A.places A.shown in
     let same : T.list ≡ P.list = draws_one N (classes ps) (load_of xs) T.list P.list T.draws d in
@@ -87,5 +87,5 @@ returns g c =
       words_are = P.row_is;
       witness = w;
       shows = subst (λ (qs : List (List ℕ)). Witness K N (length qs) w) same (shown_witness L R a A.places A.shown c.requires.cut);
-      witness_is = c.write-witness-leads.ensures.row;
+      witness_is = c.write_witness-leads.ensures.row;
     }

@@ -5,5 +5,5 @@ use Rattle.delay.proofs.ContactDelay.plus.Goals as goal
 pub returns : goal.returns
 returns c = record {
   meant = search rules;
-  exact = λ t. (c.saturating-add.ensures ∙ (contact_sums_exact t).0, c.saturating-add-2.ensures ∙ (contact_sums_exact t).1);
+  exact = λ t. (c.saturating_add.ensures ∙ (contact_sums_exact t).0, c.saturating_add-2.ensures ∙ (contact_sums_exact t).1);
 }

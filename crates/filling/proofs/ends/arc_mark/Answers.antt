@@ -8,13 +8,13 @@ use Rattle.marks.specs.Links.{out_at, into_at}
 use Rattle.filling.proofs.Ending.{begin_by, end_by}
 use Rattle.filling.proofs.ends.arc_mark.Goals as goal
 
-pub begin-node-requires : goal.begin-node-requires
-begin-node-requires g c =
+pub begin_node-requires : goal.begin_node-requires
+begin_node-requires g c =
     let b = head_inside c.requires.filled.sound c.args.k c.in-Some.lead (sym c.in-Some.ensures) in
     record { inside = omega (arith, c.requires.nodes); small = omega (arith, c.requires.nodes) }
 
-pub end-node-requires : goal.end-node-requires
-end-node-requires g c =
+pub end_node-requires : goal.end_node-requires
+end_node-requires g c =
     let b = head_inside c.requires.filled.sound c.args.k c.in-Some.lead (sym c.in-Some.ensures) in
     record { inside = omega (arith, c.requires.nodes); small = omega (arith, c.requires.nodes) }
 
@@ -32,15 +32,15 @@ returns g c =
     record {
       mark = record {
         arc = sym (ap stands at);
-        begin = c.begin-node.ensures
+        begin = c.begin_node.ensures
             ∙ ap (λ (x : Bool × Bool). cond (not x.0 || not (is_some (into_at ns l.tail))) 0 l.tail) same
             ∙ begin_by N ns c.requires.links k l at m (omega (arith, c.requires.nodes));
-        end = c.end-node.ensures
+        end = c.end_node.ensures
             ∙ ap (λ (x : Bool × Bool). cond (not x.1 || not (is_some (out_at ns l.head))) c.args.sink l.head) same
             ∙ ap (λ (x : ℕ). cond (not (m k).1 || not (is_some (out_at ns l.head))) x l.head) c.requires.sink
             ∙ end_by N ns c.requires.links k l at m (omega (arith, c.requires.nodes));
         class = same;
       };
-      to-kept = c.classify.ensures.to-kept;
-      from-kept = c.classify.ensures.from-kept;
+      to_kept = c.classify.ensures.to_kept;
+      from_kept = c.classify.ensures.from_kept;
     }

@@ -6,15 +6,15 @@ use Rattle.marks.proofs.Fields.{cells_more}
 use Rattle.filling.proofs.Placing.{Placed, placed_all, ends_small}
 use Rattle.filling.proofs.leads.fill_leads.Goals as goal
 
-pub lead-mark-requires : goal.lead-mark-requires
-lead-mark-requires g c κs l e = ends_small (g.W.Wiring.net c.args.w.now) c.requires.sound c.loop-k.k l (sym e ∙ c.lead.ensures)
+pub lead_mark-requires : goal.lead_mark-requires
+lead_mark-requires g c l e = ends_small (g.W.Wiring.net c.args.w.now) c.requires.sound c.loop-k.k l (sym e ∙ c.lead.ensures)
 
 pub loop-k-preserved : goal.loop-k-preserved
 loop-k-preserved g c =
     let N = g.W.Wiring.net c.args.w.now in
     let at = c.lead.ensures in
-    let m = c.lead-mark.ensures in
-    cells_more (Placed N) c.loop-k.places c.loop-k.k c.lead-mark.result blank (omega arith) c.loop-k.invariant
+    let m = c.lead_mark.ensures in
+    cells_more (Placed N) c.loop-k.places c.loop-k.k c.lead_mark.result blank (omega arith) c.loop-k.invariant
     (m.0 ∙ ap stands at, m.1 ∙ ap tail_in at, m.2 ∙ ap head_in at)
 
 pub returns : goal.returns

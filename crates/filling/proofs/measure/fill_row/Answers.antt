@@ -9,8 +9,8 @@ loop-v-preserved g c =
     let v = c.loop-v.v in let xs = c.loop-v.table in
     let inside : v < N.nodes = omega arith in
     let room : v < length xs = omega arith in (
-      fill_step K N c.requires.sound xs v c.length-at-d.result room c.loop-v.invariant.0 c.length-at-d.ensures,
-      drop-set-lt N.nodes xs v c.length-at-d.result inside ∙ c.loop-v.invariant.1,
+      fill_step K N c.requires.sound xs v c.length_at-d.result room c.loop-v.invariant.0 c.length_at-d.ensures,
+      drop-set-lt N.nodes xs v c.length_at-d.result inside ∙ c.loop-v.invariant.1,
     )
 
 pub returns : goal.returns

@@ -1,26 +1,26 @@
-use Rattle.std.proofs.Common.{◌-◌, sym, ap, ◌∙◌, arith}
+use Rattle.std.proofs.Common.{sym, ap, ◌∙◌, arith}
 use Rattle.wiring.specs.Lengths.{marks_of}
 use Rattle.lengths.specs.Tables.{entry}
 use Rattle.cover.proofs.Arcs.{arcs_sound}
 use Rattle.filling.proofs.Ending.{node_links}
 use Rattle.filling.proofs.prepare.prepare.Goals as goal
 
-pub fill-arcs-requires : goal.fill-arcs-requires
-fill-arcs-requires g c =
+pub fill_arcs-requires : goal.fill_arcs-requires
+fill_arcs-requires g c =
     let N = g.W.Wiring.net c.args.w.now in
     record {
-      filled = record { sound = c.requires.sound; to_is = c.measure-to.ensures.filled; from_is = c.measure-from.ensures.filled };
+      filled = record { sound = c.requires.sound; to_is = c.measure_to.ensures.filled; from_is = c.measure_from.ensures.filled };
       nodes = omega arith;
-      links = node_links N c.measure-to.new.places c.measure-to.new.nodes c.measure-to.ensures.leads c.measure-to.ensures.linked;
-      places = c.measure-to.ensures.leads.places;
+      links = node_links N c.measure_to.new.places c.measure_to.new.nodes c.measure_to.ensures.leads c.measure_to.ensures.linked;
+      places = c.measure_to.ensures.leads.places;
       sink = omega (arith, c.nodes.ensures, c.requires.two);
     }
 
-pub link-arcs-requires : goal.link-arcs-requires
-link-arcs-requires g c =
+pub link_arcs-requires : goal.link_arcs-requires
+link_arcs-requires g c =
     let K = g.D.Delay.kind in let N = g.W.Wiring.net c.args.w.now in
-    let to = entry K c.measure-to.new.to.table.now in let from = entry K c.measure-from.new.from.table.now in
-    let H = c.fill-arcs.ensures.arcs in
+    let to = entry K c.measure_to.new.to.table.now in let from = entry K c.measure_from.new.from.table.now in
+    let H = c.fill_arcs.ensures.arcs in
     let T = arcs_sound c.requires.sound (marks_of K N to from) in
     let few = c.requires.sound.few_places in
     record {

@@ -10,8 +10,8 @@ pub returns : goal.returns
 returns g c =
     let K = g.D.Delay.kind in let N = g.W.Wiring.net c.args.w.now in
     let to = c.args.to.now.table.now in let from = c.args.from.now.table.now in
-    let l = c.in-ok-lead.lead in
-    let at : N.at c.args.place ≡ Some l = sym c.lead.ensures ∙ c.in-ok-lead.was in
+    let l = c.in_ok-lead.lead in
+    let at : N.at c.args.place ≡ Some l = sym c.lead.ensures ∙ c.in_ok-lead.was in
     let drains : c.level-drains.result ≡ level K (K.plus l.delay (entry K from l.head)) (entry K from l.tail) = cc in
     let fed : c.level-fed.result ≡ level K (K.plus (entry K to l.tail) l.delay) (entry K to l.head) = cc in
     let pair : ◌≡◌ {A = Bool × Bool} (c.level-drains.result, c.level-fed.result) (type_by K (entry K to) (entry K from) l) = λ i. (drains i, fed i) in
@@ -20,6 +20,6 @@ returns g c =
     record {
       marks = is;
       types = λ F. subst (TypeOf K N c.args.place) (sym is) (type_told K g.met.D.Delay.laws N to from F c.args.place (N.at c.args.place) refl);
-      to-kept = (c.at-4.ensures.kept.0 ∙ c.at-3.ensures.kept.0, c.at-4.ensures.kept.1 ∙ c.at-3.ensures.kept.1);
-      from-kept = (c.at-2.ensures.kept.0 ∙ c.at.ensures.kept.0, c.at-2.ensures.kept.1 ∙ c.at.ensures.kept.1);
+      to_kept = (c.at-4.ensures.kept.0 ∙ c.at-3.ensures.kept.0, c.at-4.ensures.kept.1 ∙ c.at-3.ensures.kept.1);
+      from_kept = (c.at-2.ensures.kept.0 ∙ c.at.ensures.kept.0, c.at-2.ensures.kept.1 ∙ c.at.ensures.kept.1);
     }

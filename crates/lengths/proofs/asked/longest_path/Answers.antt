@@ -10,7 +10,7 @@ use Rattle.lengths.specs.Asked.{Filled, of_lead}
 use Rattle.lengths.proofs.Best.{BestBelow, best_skip, best_more}
 use Rattle.lengths.proofs.Asking.{tables, longest_told, lead_from}
 use Rattle.lengths.proofs.asked.longest_path.Goals as goal
-use Rattle.lengths.proofs.asked.longest_path.Goals.{in-Some, in-default}
+use Rattle.lengths.proofs.asked.longest_path.Goals.{in-Some, in_default}
 
 pub loop-place-preserved : goal.loop-place-preserved
 loop-place-preserved g c =
@@ -22,22 +22,22 @@ loop-place-preserved g c =
     let inv = c.loop-place.invariant in
     let within : Filled K N to from → (k : ℕ) (l : Lead g.row.D.Denot) → Holds N k l → Q l → Within K (value l) =
     λ F k l h q. through_within L F.sound (tables K L N to from F) k l h in
-    let e : c.longest-through.result ≡ of_lead value (N.at p) =
-    c.longest-through.ensures.delay
+    let e : c.longest_through.result ≡ of_lead value (N.at p) =
+    c.longest_through.ensures.delay
     ∙ ap (λ x. of_lead (through_by K (entry K x) (entry K c.loop-place.from.table.now)) (N.at p)) inv.1.0
     ∙ ap (λ x. of_lead (through_by K (entry K to) (entry K x)) (N.at p)) inv.2.0 in
     let Inv : Option g.row.D.Denot → Type 0 = BestBelow K N Q value (p + 1) in (
-      λ F. elim c.match-longest-through.branch [
+      λ F. elim c.match-longest_through.branch [
         | in-Some w ↦
             let f = lead_from value (N.at p) w.in-Some.delay (sym e ∙ w.in-Some.is) in
-            let now_best : c.match-longest-through.best ≡ Some (longer_of K best (value f.0)) =
+            let now_best : c.match-longest_through.best ≡ Some (longer_of K best (value f.0)) =
             w.best-is ∙ ap {B = Option g.row.D.Denot} (λ x. Some x) (w.longer.ensures ∙ ap (longer_of K best) (sym f.2)) in
             subst Inv (sym now_best) (best_more K L N Q value (within F) p best f.0 (inv.0 F) f.1 tt)
-        | in-default w ↦
-            subst Inv (sym w.best-is) (best_skip K L N Q value (within F) p best (inv.0 F) (λ l h q. w.in-default.not-Some (value l) (e ∙ ap (of_lead value) h)))
+        | in_default w ↦
+            subst Inv (sym w.best-is) (best_skip K L N Q value (within F) p best (inv.0 F) (λ l h q. w.in_default.not-Some (value l) (e ∙ ap (of_lead value) h)))
       ],
-      (c.longest-through.ensures.to-kept.0 ∙ inv.1.0, c.longest-through.ensures.to-kept.1 ∙ inv.1.1),
-      (c.longest-through.ensures.from-kept.0 ∙ inv.2.0, c.longest-through.ensures.from-kept.1 ∙ inv.2.1),
+      (c.longest_through.ensures.to_kept.0 ∙ inv.1.0, c.longest_through.ensures.to_kept.1 ∙ inv.1.1),
+      (c.longest_through.ensures.from_kept.0 ∙ inv.2.0, c.longest_through.ensures.from_kept.1 ∙ inv.2.1),
     )
 
 pub returns : goal.returns
@@ -49,6 +49,6 @@ returns g c =
     record {
       longest = λ F. longest_told K L N to from F c.loop-place.best
           (subst (λ p. BestBelow K N (λ l. Unit {0}) (through_by K (entry K to) (entry K from)) p c.loop-place.best) end (inv.0 F));
-      to-kept = inv.1;
-      from-kept = inv.2;
+      to_kept = inv.1;
+      from_kept = inv.2;
     }

@@ -9,14 +9,14 @@ pub returns : goal.returns
 returns g c =
     let K = g.D.Delay.kind in let N = g.W.Wiring.net c.args.w.now in
     let to = c.args.to.now.table.now in let from = c.args.from.now.table.now in
-    let l = c.in-ok-lead.lead in
-    let at : N.at c.args.place ≡ Some l = sym c.lead.ensures ∙ c.in-ok-lead.was in
+    let l = c.in_ok-lead.lead in
+    let at : N.at c.args.place ≡ Some l = sym c.lead.ensures ∙ c.in_ok-lead.was in
     let sum : c.plus.result ≡ through_by K (entry K to) (entry K from) l = cc in
     let is : ◌≡◌ {A = Option g.row.D.Denot} (Some c.plus.result) (of_lead (through_by K (entry K to) (entry K from)) (N.at c.args.place)) =
     ap {B = Option g.row.D.Denot} (λ x. Some x) sum ∙ sym (ap (of_lead (through_by K (entry K to) (entry K from))) at) in
     record {
       delay = is;
       longest = λ F. subst (ThroughOf K N c.args.place) (sym is) (through_told K g.met.D.Delay.laws N to from F c.args.place (N.at c.args.place) refl);
-      to-kept = c.at-2.ensures.kept;
-      from-kept = c.at.ensures.kept;
+      to_kept = c.at-2.ensures.kept;
+      from_kept = c.at.ensures.kept;
     }

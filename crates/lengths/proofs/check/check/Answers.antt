@@ -8,7 +8,7 @@ pub loop-place-preserved : goal.loop-place-preserved
 loop-place-preserved g c =
     let K = g.D.Delay.kind in
     let same = c.nodes-nodes.ensures in
-    below_more _ _ c.loop-place.invariant (λ l h. subst (λ n. Keeps K n l) same (c.in-default.ensures l (c.lead.ensures ∙ h)))
+    below_more _ _ c.loop-place.invariant (λ l h. subst (λ n. Keeps K n l) same (c.in_default.ensures l (c.lead.ensures ∙ h)))
 
 pub returns-in-Some : goal.returns-in-Some
 returns-in-Some g c =

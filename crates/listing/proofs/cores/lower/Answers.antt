@@ -9,8 +9,8 @@ pub bounds-left-lead : goal.bounds-left-lead
 bounds-left-lead c =
     lower_within c.args.core.now c.loop-lead.lead-index (omega arith) (load_of c.args.left.now) c.loop-lead.left c.requires c.loop-lead.invariant
 
-pub overflow-sub-left : goal.overflow-sub-left
-overflow-sub-left c =
+pub overflow_sub-left : goal.overflow_sub-left
+overflow_sub-left c =
     let some = lower_some c.args.core.now c.loop-lead.lead-index (omega arith) (load_of c.args.left.now) c.loop-lead.left c.requires
     c.loop-lead.invariant in omega arith
 

@@ -19,39 +19,39 @@ loop-links-init c =
       c.requires.arc,
     )
 
-pub overflow-cast-lead : goal.overflow-cast-lead
-overflow-cast-lead c = omega (arith, arc_within c.args.links.arcs c.loop-links.lead c.loop-links.invariant.1, c.args.links.arcs.fits.3)
+pub overflow_cast-lead : goal.overflow_cast-lead
+overflow_cast-lead c = omega (arith, arc_within c.args.links.arcs c.loop-links.lead c.loop-links.invariant.1, c.args.links.arcs.fits.3)
 
-pub is-end-requires : goal.is-end-requires
-is-end-requires c = arc_within c.args.links.arcs c.loop-links.lead c.loop-links.invariant.1
+pub is_end-requires : goal.is_end-requires
+is_end-requires c = arc_within c.args.links.arcs c.loop-links.lead c.loop-links.invariant.1
 
-pub next-lead-requires : goal.next-lead-requires
-next-lead-requires c = record { whole = c.requires.whole; places = c.requires.places; arc = c.loop-links.invariant.1 }
+pub next_lead-requires : goal.next_lead-requires
+next_lead-requires c = record { whole = c.requires.whole; places = c.requires.places; arc = c.loop-links.invariant.1 }
 
 pub unreachable-requires : goal.unreachable-requires
 unreachable-requires c =
-    core_goes (shown c.args.links.arcs) (load_of c.args.left.now) c.loop-links.invariant.0.on c.is-end.ensures c.loop-links-test.true
-    c.in-default.ensures
+    core_goes (shown c.args.links.arcs) (load_of c.args.left.now) c.loop-links.invariant.0.on c.is_end.ensures c.loop-links-test.true
+    c.in_default.ensures
 
 pub bounds-row-end : goal.bounds-row-end
 bounds-row-end c =
     let T = shown c.args.links.arcs in let left = load_of c.args.left.now in let W = c.loop-links.invariant.0 in
-    let q = core_meets T left W.on c.is-end.ensures c.loop-links-test.true (Some c.in-Some.next) c.in-Some.ensures in
+    let q = core_meets T left W.on c.is_end.ensures c.loop-links-test.true (Some c.in-Some.next) c.in-Some.ensures in
     omega (arith, writes_low (by_arcs T left) W c.in-Some.next q, c.loop-links.auto.row)
 
 pub loop-links-smaller : goal.loop-links-smaller
 loop-links-smaller c =
     let T = shown c.args.links.arcs in let left = load_of c.args.left.now in let W = c.loop-links.invariant.0 in
-    let q = core_meets T left W.on c.is-end.ensures c.loop-links-test.true (Some c.in-Some.next) c.in-Some.ensures in
+    let q = core_meets T left W.on c.is_end.ensures c.loop-links-test.true (Some c.in-Some.next) c.in-Some.ensures in
     omega (arith, writes_low (by_arcs T left) W c.in-Some.next q)
 
 pub loop-links-preserved : goal.loop-links-preserved
 loop-links-preserved c =
     let T = shown c.args.links.arcs in let left = load_of c.args.left.now in let W = c.loop-links.invariant.0 in
-    let q = core_meets T left W.on c.is-end.ensures c.loop-links-test.true (Some c.in-Some.next) c.in-Some.ensures in
+    let q = core_meets T left W.on c.is_end.ensures c.loop-links-test.true (Some c.in-Some.next) c.in-Some.ensures in
     (writes_turn (by_arcs T left) W c.in-Some.next q, left_arc T left (T.end c.loop-links.lead) 0 c.in-Some.next c.in-Some.ensures)
 
 pub returns : goal.returns
 returns c =
     core_ends (shown c.args.links.arcs) (load_of c.args.left.now) c.args.start c.args.at c.args.row.now
-    (omega (arith, c.requires.fits.room)) c.loop-links.invariant.0 c.is-end.ensures c.loop-links-test.false
+    (omega (arith, c.requires.fits.room)) c.loop-links.invariant.0 c.is_end.ensures c.loop-links-test.false

@@ -5,23 +5,23 @@ use Rattle.marks.specs.Marks.{load_of}
 use Rattle.marks.specs.Shown.{shown}
 use Rattle.listing.proofs.Weights.{where_more, where_skip}
 use Rattle.listing.proofs.count.count_paths.Goals as goal
-use Rattle.listing.proofs.count.count_paths.Goals.{then-is-start, else-is-start}
+use Rattle.listing.proofs.count.count_paths.Goals.{then-is_start, else-is_start}
 
-pub overflow-add-paths : goal.overflow-add-paths
-overflow-add-paths c = omega (arith, c.loop-place.invariant.1, c.type-inv.left c.loop-place.place, c.args.arcs.fits.3)
+pub overflow_add-paths : goal.overflow_add-paths
+overflow_add-paths c = omega (arith, c.loop-place.invariant.1, c.type_inv.left c.loop-place.place, c.args.arcs.fits.3)
 
 pub loop-place-preserved : goal.loop-place-preserved
 loop-place-preserved c =
     let P = begins (shown c.args.arcs) c.args.arcs.source in let left = load_of c.args.left.now in
     let n = c.loop-place.place in let inv = c.loop-place.invariant in
-    elim c.if-is-start.branch [
-      | then-is-start w ↦ (
-        w.paths_is ∙ where_more n P left c.loop-place.paths inv.0 (sym c.is-start.ensures ∙ w.if-is-start.true),
-        omega (arith, w.paths_is, inv.1, c.type-inv.left n),
+    elim c.if-is_start.branch [
+      | then-is_start w ↦ (
+        w.paths-is ∙ where_more n P left c.loop-place.paths inv.0 (sym c.is_start.ensures ∙ w.if-is_start.true),
+        omega (arith, w.paths-is, inv.1, c.type_inv.left n),
       )
-      | else-is-start w ↦ (
-        w.paths_is ∙ where_skip n P left c.loop-place.paths inv.0 (sym c.is-start.ensures ∙ w.if-is-start.false),
-        omega (arith, w.paths_is, inv.1),
+      | else-is_start w ↦ (
+        w.paths-is ∙ where_skip n P left c.loop-place.paths inv.0 (sym c.is_start.ensures ∙ w.if-is_start.false),
+        omega (arith, w.paths-is, inv.1),
       )
     ]
 

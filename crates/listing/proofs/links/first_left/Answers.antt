@@ -8,17 +8,17 @@ use Rattle.listing.proofs.links.first_left.Goals as goal
 pub loop-next-init : goal.loop-next-init
 loop-next-init c = (c.requires.arc, λ o f. f)
 
-pub has-left-requires : goal.has-left-requires
-has-left-requires c = omega (arith, look_within c.args.links c.loop-next.next c.in-Some.place c.in-Some.is c.loop-next.invariant.0)
+pub has_left-requires : goal.has_left-requires
+has_left-requires c = omega (arith, look_within c.args.links c.loop-next.next c.in-Some.place c.in-Some.is c.loop-next.invariant.0)
 
 pub bounds-links-place : goal.bounds-links-place
 bounds-links-place c = look_within c.args.links c.loop-next.next c.in-Some.place c.in-Some.is c.loop-next.invariant.0
 
-pub returns-then-has-left : goal.returns-then-has-left
-returns-then-has-left c =
+pub returns-then-has_left : goal.returns-then-has_left
+returns-then-has_left c =
     let T = shown c.args.links.arcs in let left = load_of c.args.left.now in let k = c.in-Some.place in
     c.loop-next.invariant.1 (Some k)
-    (subst (λ (x : Option ℕ). FoundFrom T left x (Some k)) (sym c.in-Some.is) (found_here T left k c.if-has-left.ensures))
+    (subst (λ (x : Option ℕ). FoundFrom T left x (Some k)) (sym c.in-Some.is) (found_here T left k c.if-has_left.ensures))
 
 pub loop-next-smaller : goal.loop-next-smaller
 loop-next-smaller c =
@@ -28,9 +28,9 @@ loop-next-smaller c =
 pub loop-next-preserved : goal.loop-next-preserved
 loop-next-preserved c =
     look_again c.args.links c.loop-next.next c.in-Some.place c.in-Some.is c.loop-next.invariant.0
-    c.requires.whole (load_of c.args.left.now) c.args.from c.if-has-left.ensures c.loop-next.invariant.1
+    c.requires.whole (load_of c.args.left.now) c.args.from c.if-has_left.ensures c.loop-next.invariant.1
 
 pub returns : goal.returns
 returns c =
     let T = shown c.args.links.arcs in let left = load_of c.args.left.now in
-    c.loop-next.invariant.1 None (subst (λ (x : Option ℕ). FoundFrom T left x None) (sym c.in-default.is) (found_none T left))
+    c.loop-next.invariant.1 None (subst (λ (x : Option ℕ). FoundFrom T left x None) (sym c.in_default.is) (found_none T left))

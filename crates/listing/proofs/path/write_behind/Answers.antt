@@ -5,7 +5,7 @@ use Rattle.listing.proofs.path.write_behind.Goals as goal
 
 pub returns : goal.returns
 returns g c =
-    let b = c.write-walk-end.ensures in
+    let b = c.write_walk-end.ensures in
     record {
       leads = b.leads;
       stop = b.stop;

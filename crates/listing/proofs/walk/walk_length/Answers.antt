@@ -8,11 +8,11 @@ use Rattle.listing.proofs.walk.walk_length.Goals as goal
 pub loop-lead-init : goal.loop-lead-init
 loop-lead-init g c = (counts_start (way (g.W.Wiring.net c.args.w.now) (types_in c.args.links) c.args.along) c.requires.short, c.requires.reached)
 
-pub lowest-arc-requires : goal.lowest-arc-requires
-lowest-arc-requires g c = node_within c.args.links c.requires.shows c.args.along c.loop-lead.node c.loop-lead.invariant.1
+pub lowest_arc-requires : goal.lowest_arc-requires
+lowest_arc-requires g c = node_within c.args.links c.requires.shows c.args.along c.loop-lead.node c.loop-lead.invariant.1
 
-pub overflow-add-leads : goal.overflow-add-leads
-overflow-add-leads g c =
+pub overflow_add-leads : goal.overflow_add-leads
+overflow_add-leads g c =
     let X = way (g.W.Wiring.net c.args.w.now) (types_in c.args.links) c.args.along in
     let W = c.loop-lead.invariant.0 in let j = c.in-Some.lead in
     let q = link_meets c.args.links c.requires.shows c.args.along c.loop-lead.node c.loop-lead.invariant.1 W.on (Some j) c.in-Some.ensures in
@@ -38,4 +38,4 @@ pub returns : goal.returns
 returns g c =
     let X = way (g.W.Wiring.net c.args.w.now) (types_in c.args.links) c.args.along in let W = c.loop-lead.invariant.0 in
     counts_end X W
-    (link_meets c.args.links c.requires.shows c.args.along c.loop-lead.node c.loop-lead.invariant.1 W.on None c.in-default.ensures)
+    (link_meets c.args.links c.requires.shows c.args.along c.loop-lead.node c.loop-lead.invariant.1 W.on None c.in_default.ensures)

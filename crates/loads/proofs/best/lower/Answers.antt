@@ -31,8 +31,8 @@ shift-requires c =
       slack = slack_all T f (k + 1) u v (f k - 1) ns c.requires.trail c.requires.target by c.slack-by.ensures;
     }
 
-pub overflow-sub-loads-2 : goal.overflow-sub-loads-2
-overflow-sub-loads-2 c =
+pub overflow_sub-loads-2 : goal.overflow_sub-loads-2
+overflow_sub-loads-2 c =
     let T = shown c.args.arcs in
     let f = load_of c.args.loads.now in
     let h = load_of c.shift.new.loads in

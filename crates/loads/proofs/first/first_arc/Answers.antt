@@ -14,7 +14,7 @@ unwrap-requires c =
     let v = c.args.v in
     let some = c.requires.some in
     let first = linked_first arcs c.args.nodes.now c.requires.linked along v c.requires.node in
-    first_some (shown arcs) along v c.link-of.result (subst (Earliest (leads_from (shown arcs) along v) 0) (sym c.link-of.ensures) first)
+    first_some (shown arcs) along v c.link_of.result (subst (Earliest (leads_from (shown arcs) along v) 0) (sym c.link_of.ensures) first)
     some.0 some.1 some.2
 
 pub returns : goal.returns
@@ -26,5 +26,5 @@ returns c =
     let v = c.args.v in
     let j = c.unwrap.result in
     let first = linked_first arcs ns c.requires.linked along v c.requires.node in
-    let here = linked_at T along v 0 (link_at ns along v) j first (sym c.link-of.ensures ∙ c.unwrap.ensures) in
+    let here = linked_at T along v 0 (link_at ns along v) j first (sym c.link_of.ensures ∙ c.unwrap.ensures) in
     record { place = arc_inside T (shown_sound arcs) j here.0; arc = here.0; from = here.1 }

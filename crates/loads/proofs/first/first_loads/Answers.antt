@@ -13,8 +13,8 @@ use Rattle.loads.proofs.first.first_loads.Goals.{else-arcs-k-via-then-arcs-k+els
 pub loop-k-init : goal.loop-k-init
 loop-k-init c = begun_clear (shown c.args.arcs) (load_of c.clear.new.loads) c.clear.ensures
 
-pub raise-through-requires : goal.raise-through-requires
-raise-through-requires c =
+pub raise_through-requires : goal.raise_through-requires
+raise_through-requires c =
     let arcs = c.args.arcs in
     let begun = c.loop-k.invariant.0 in
     let most = load_le (shown arcs) (shown_sound arcs) (load_of c.loop-k.loads) begun.balanced begun.vacant in
@@ -38,8 +38,8 @@ loop-k-preserved c =
     let Kept : List ℕ → Type 0 = λ ls. Begun T (load_of ls) (k + 1) × (total T (load_of ls) ≤ k + 1) in
     elim c.if-arcs-k.branch [
       | then-arcs-k+then-loads-k-eq0 w ↦
-          let g = load_of w.raise-through.new.loads in
-          subst Kept (sym w.loads-is) (begun_through T (shown_sound arcs) f g k inv.0 inv.1 w.raise-through.ensures)
+          let g = load_of w.raise_through.new.loads in
+          subst Kept (sym w.loads-is) (begun_through T (shown_sound arcs) f g k inv.0 inv.1 w.raise_through.ensures)
       | else-arcs-k w ↦
           let some : T.arc k ≡ true → 1 ≤ f k =
           elim w.else-arcs-k.branch [

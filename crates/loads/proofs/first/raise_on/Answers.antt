@@ -15,16 +15,16 @@ loop-v-init c =
     let f = load_of c.args.loads.now in
     let along = c.args.along in
     let u = step_to T (over c.args.k along) in
-    let here = c.step-ends-v.ensures.to in
-    (raised_none T f along u c.step-ends-v.result.1 here, (c.args.k, c.requires.arc, here))
+    let here = c.step_ends-v.ensures.to in
+    (raised_none T f along u c.step_ends-v.result.1 here, (c.args.k, c.requires.arc, here))
 
-pub first-arc-j-requires : goal.first-arc-j-requires
-first-arc-j-requires c =
+pub first_arc-j-requires : goal.first_arc-j-requires
+first_arc-j-requires c =
     let arcs = c.args.arcs in
     let T = shown arcs in
     let along = c.args.along in
     let i = c.loop-v.invariant.1 in
-    let next = joined_on T c.requires.joined along i.0 i.1 (λ e. c.loop-v-test.true (i.2 ∙ e ∙ sym c.last-node-last.ensures)) in
+    let next = joined_on T c.requires.joined along i.0 i.1 (λ e. c.loop-v-test.true (i.2 ∙ e ∙ sym c.last_node-last.ensures)) in
     record {
       node = omega (arith, step_inside T (shown_sound arcs) (over i.0 along) i.1, i.2);
       linked = c.requires.linked;
@@ -34,9 +34,9 @@ first-arc-j-requires c =
 pub raise-requires : goal.raise-requires
 raise-requires c =
     let arcs = c.args.arcs in
-    let j = c.first-arc-j.result in
+    let j = c.first_arc-j.result in
     record {
-      place = omega (arith, c.first-arc-j.ensures.place);
+      place = omega (arith, c.first_arc-j.ensures.place);
       room = omega (arith, raised_le (shown arcs) (shown_sound arcs) _ _ c.args.along _ _ c.loop-v.invariant.0 j, c.requires.room j);
     }
 
@@ -48,19 +48,19 @@ loop-v-preserved c =
     let h = load_of c.raise.new.loads in
     let along = c.args.along in
     let u = step_to T (over c.args.k along) in
-    let j = c.first-arc-j.result in
-    let first = c.first-arc-j.ensures in
-    let there = c.step-ends-v-in-loop-v.ensures.to in
-    let w = c.step-ends-v-in-loop-v.result.1 in
+    let j = c.first_arc-j.result in
+    let first = c.first_arc-j.ensures in
+    let there = c.step_ends-v-in-loop-v.ensures.to in
+    let w = c.step_ends-v-in-loop-v.result.1 in
     (raised_more T f g h along u c.loop-v.v w j first.arc first.from there c.raise.ensures c.loop-v.invariant.0, (j, first.arc, there))
 
 pub loop-v-smaller : goal.loop-v-smaller
 loop-v-smaller c =
     let arcs = c.args.arcs in
-    let first = c.first-arc-j.ensures in
-    let j = c.first-arc-j.result in
-    let w = c.step-ends-v-in-loop-v.result.1 in
-    still_less (shown arcs) (shown_sound arcs) c.args.along c.loop-v.v w j first.arc first.from c.step-ends-v-in-loop-v.ensures.to
+    let first = c.first_arc-j.ensures in
+    let j = c.first_arc-j.result in
+    let w = c.step_ends-v-in-loop-v.result.1 in
+    still_less (shown arcs) (shown_sound arcs) c.args.along c.loop-v.v w j first.arc first.from c.step_ends-v-in-loop-v.ensures.to
 
 pub returns : goal.returns
 returns c =
@@ -69,4 +69,4 @@ returns c =
     let g = load_of c.loop-v.loads in
     let along = c.args.along in
     let u = step_to T (over c.args.k along) in
-    subst (RaisedOn T f g along u) (c.loop-v-test.false ∙ c.last-node-last.ensures) c.loop-v.invariant.0
+    subst (RaisedOn T f g along u) (c.loop-v-test.false ∙ c.last_node-last.ensures) c.loop-v.invariant.0

@@ -9,11 +9,11 @@ pub loop-done-init : goal.loop-done-init
 loop-done-init c =
     let T = shown c.args.arcs in
     let u = c.args.from in
-    let begun = c.begin-search.ensures in
-    let ns = c.begin-search.new.nodes in (
+    let begun = c.begin_search.ensures in
+    let ns = c.begin_search.new.nodes in (
       begun_trail T u ns begun.reached (load_of c.args.loads.now) c.args.low,
       begun_queued T u ns begun.reached c.requires.from begun.depth begun.queued,
-      links_stay c.args.arcs.marks.now c.args.nodes.now ns c.begin-search.auto.nodes begun.out begun.into c.requires.linked,
+      links_stay c.args.arcs.marks.now c.args.nodes.now ns c.begin_search.auto.nodes begun.out begun.into c.requires.linked,
       (λ i l. absurd (omega arith)),
       omega arith,
     )

@@ -15,10 +15,10 @@ reach-requires c =
     let arcs = c.args.arcs in
     let T = shown arcs in
     let ns = c.args.nodes.now in
-    let u = c.step-ends-u.result.0 in
-    let v = c.step-ends-u.result.1 in
+    let u = c.step_ends-u.result.0 in
+    let v = c.step_ends-u.result.1 in
     let inside = step_inside T (shown_sound arcs) (over c.args.k c.args.along) c.requires.arc in
-    let from = subst (λ (w : ℕ). reached_of ns w ≡ true) (sym c.step-ends-u.ensures.from) c.requires.from in
+    let from = subst (λ (w : ℕ). reached_of ns w ≡ true) (sym c.step_ends-u.ensures.from) c.requires.from in
     record {
       from = omega (arith, inside.0);
       to = omega (arith, inside.1);
@@ -37,15 +37,15 @@ returns c =
     let ns = c.args.nodes.now in
     let ms = c.reach.new.nodes in
     let s = over c.args.k c.args.along in
-    let v = c.step-ends-u.result.1 in
-    let ends = c.step-ends-u.ensures in
+    let v = c.step_ends-u.result.1 in
+    let ends = c.step_ends-u.ensures in
     let opens : Opens T f low (reached_of ns) s =
     record {
       arc = c.requires.arc;
       above = omega arith;
       from = c.requires.from;
       to = subst (λ (w : ℕ). reached_of ns w ≡ false) ends.to c.if-nodes-v.false;
-      free = c.is-free.ensures.only c.if-not-is-free.false;
+      free = c.is_free.ensures.only c.if-not-is_free.false;
     } in
     let reaches = subst (λ (w : ℕ). Reaches ns ms (step_from T s) w s count) ends.to
     (subst (λ (w : ℕ). Reaches ns ms w v s count) ends.from c.reach.ensures) in

@@ -4,7 +4,7 @@ use Rattle.marks.specs.Shown.{shown}
 use Rattle.marks.proofs.Fields.{shown_sound}
 use Rattle.loads.proofs.shift.came_from.Goals as goal
 
-pub step-ends-requires : goal.step-ends-requires
-step-ends-requires c =
+pub step_ends-requires : goal.step_ends-requires
+step_ends-requires c =
     let arcs = c.args.arcs in
     arc_inside (shown arcs) (shown_sound arcs) (via_of c.args.nodes.now c.args.v).place c.requires.arc

@@ -49,7 +49,7 @@ loop-v-preserved c =
     let s = via_of ns v in
     let inv = c.loop-v.invariant in
     let ss = inv.0 in
-    let next = walk_next T f 0 from to ns c.requires.trail v ss inv.1 inv.2 c.loop-v-test.true c.came-from-v.result c.came-from-v.ensures in (
+    let next = walk_next T f 0 from to ns c.requires.trail v ss inv.1 inv.2 c.loop-v-test.true c.came_from-v.result c.came_from-v.ensures in (
       s ∷ ss,
       next.0,
       next.1,

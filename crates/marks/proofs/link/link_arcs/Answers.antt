@@ -5,8 +5,8 @@ use Rattle.marks.proofs.link.link_arcs.Goals as goal
 pub loop-k-init : goal.loop-k-init
 loop-k-init c = (kept_none c.args.places.now, linked_none c.args.places.now c.unlink.new.nodes c.unlink.ensures)
 
-pub link-place-requires : goal.link-place-requires
-link-place-requires c =
+pub link_place-requires : goal.link_place-requires
+link_place-requires c =
     let j = c.loop-k.k - 1 in
     let kept = c.loop-k.invariant.0 in
     let arc = sym (ap (λ (h : ℕ → Bool). h j) kept.arc) ∙ c.if-places-k.true in
@@ -25,8 +25,8 @@ loop-k-preserved-then-places-k c =
     let within = c.requires.within j arc in
     let begin = ap (λ (h : ℕ → ℕ). h j) kept.begin in
     let end = ap (λ (h : ℕ → ℕ). h j) kept.end in
-    let step = c.link-place.ensures in (
-      kept_more c.args.places.now ps c.link-place.new.places kept step.arcs,
-      linked_step ps ns c.link-place.new.places c.link-place.new.nodes j c.loop-k.k (omega arith) (omega arith)
+    let step = c.link_place.ensures in (
+      kept_more c.args.places.now ps c.link_place.new.places kept step.arcs,
+      linked_step ps ns c.link_place.new.places c.link_place.new.nodes j c.loop-k.k (omega arith) (omega arith)
           c.if-places-k.true (omega arith) (omega arith) c.loop-k.invariant.1 step,
     )

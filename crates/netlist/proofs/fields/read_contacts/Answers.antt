@@ -11,5 +11,5 @@ narrowed bs n (Err x) l e h = λ m s f. h (omega (arith, decimal_injective n m (
 
 pub returns : goal.returns
 returns c =
-    let read = c.in-ok-n.ensures.gives in
-    rw c.ok.ensures.value (narrowed c.args.text.now c.in-ok-n.n c.try-from.result read.0 read.1 c.try-from.ensures)
+    let read = c.in_ok-n.ensures.gives in
+    rw c.ok.ensures.value (narrowed c.args.text.now c.in_ok-n.n c.try_from.result read.0 read.1 c.try_from.ensures)

@@ -19,30 +19,30 @@ tail_cut {k} {w} {line} s cut e = number_cut 45 w.tail line _ _ _ s.tail (λ h. 
 head_cut : {k : KindName} {w : Wire} {line h r : List ℕ} → InRange k w → Splits 58 line h r → line ≡ past_tail k w → (h ≡ decimal w.head) × (r ≡ past_head k w)
 head_cut {k} {w} {line} s cut e = number_cut 58 w.head line _ _ _ s.head (λ h. omega arith) cut e
 
-pub returns-in-err-tail : goal.returns-in-err-tail
-returns-in-err-tail c =
-    rw c.from-residual.ensures (λ w s e. no_cut 45 c.args.line.now _ _ c.in-err-tail.ensures e)
+pub returns-in_err-tail : goal.returns-in_err-tail
+returns-in_err-tail c =
+    rw c.from_residual.ensures (λ w s e. no_cut 45 c.args.line.now _ _ c.in_err-tail.ensures e)
 
-pub returns-in-err-head : goal.returns-in-err-head
-returns-in-err-head c =
-    rw c.from-residual-in-err-head.ensures
-    (λ w s e. no_cut 58 c.in-ok-tail.rest.now _ _ c.in-err-head.ensures (tail_cut s c.in-ok-tail.ensures e).1)
+pub returns-in_err-head : goal.returns-in_err-head
+returns-in_err-head c =
+    rw c.from_residual-in_err-head.ensures
+    (λ w s e. no_cut 58 c.in_ok-tail.rest.now _ _ c.in_err-head.ensures (tail_cut s c.in_ok-tail.ensures e).1)
 
-pub returns-in-err-tail-2 : goal.returns-in-err-tail-2
-returns-in-err-tail-2 c =
-    rw c.from-residual-in-err-tail-2.ensures
-    (λ w s e. c.in-err-tail-2.ensures.gives w.tail s.tail (tail_cut s c.in-ok-tail.ensures e).0)
+pub returns-in_err-tail-2 : goal.returns-in_err-tail-2
+returns-in_err-tail-2 c =
+    rw c.from_residual-in_err-tail-2.ensures
+    (λ w s e. c.in_err-tail-2.ensures.gives w.tail s.tail (tail_cut s c.in_ok-tail.ensures e).0)
 
-pub returns-in-err-head-2 : goal.returns-in-err-head-2
-returns-in-err-head-2 c =
-    rw c.from-residual-in-err-head-2.ensures
+pub returns-in_err-head-2 : goal.returns-in_err-head-2
+returns-in_err-head-2 c =
+    rw c.from_residual-in_err-head-2.ensures
     (λ w s e.
-    let rest = (tail_cut s c.in-ok-tail.ensures e).1 in
-    c.in-err-head-2.ensures.gives w.head s.head (head_cut s c.in-ok-head.ensures rest).0)
+    let rest = (tail_cut s c.in_ok-tail.ensures e).1 in
+    c.in_err-head-2.ensures.gives w.head s.head (head_cut s c.in_ok-head.ensures rest).0)
 
-pub returns-in-err-picoseconds : goal.returns-in-err-picoseconds
-returns-in-err-picoseconds c =
-    rw c.from-residual-in-err-picoseconds.ensures
+pub returns-in_err-picoseconds : goal.returns-in_err-picoseconds
+returns-in_err-picoseconds c =
+    rw c.from_residual-in_err-picoseconds.ensures
     (λ w s e.
-    let rest = (tail_cut s c.in-ok-tail.ensures e).1 in
-    c.in-err-picoseconds.ensures (w.picoseconds, w.contacts) (s.picoseconds, s.contacts) (head_cut s c.in-ok-head.ensures rest).1)
+    let rest = (tail_cut s c.in_ok-tail.ensures e).1 in
+    c.in_err-picoseconds.ensures (w.picoseconds, w.contacts) (s.picoseconds, s.contacts) (head_cut s c.in_ok-head.ensures rest).1)

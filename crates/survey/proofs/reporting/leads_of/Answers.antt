@@ -7,10 +7,10 @@ pub loop-place-preserved : goal.loop-place-preserved
 loop-place-preserved g c =
     let f = place_of g.D.Delay.kind in let xs = c.args.places.now in let i = c.loop-place.place-index in
     let h : i < length xs = omega arith in
-    let items = c.in-ok-push.ensures.items in
+    let items = c.in_ok-push.ensures.items in
     let more : map f (take (i + 1) xs) ≡ map f (take i xs) ++ (f (get_or xs i None) ∷ []) =
     ap (map f) (take_more xs i None h) ∙ map-append f (take i xs) (get_or xs i None ∷ []) in
-    items ∙ ap (λ ls. ls ++ (c.lead-of.result ∷ [])) c.loop-place.invariant ∙ ap (λ l. map f (take i xs) ++ (l ∷ [])) c.lead-of.ensures ∙ sym more
+    items ∙ ap (λ ls. ls ++ (c.lead_of.result ∷ [])) c.loop-place.invariant ∙ ap (λ l. map f (take i xs) ++ (l ∷ [])) c.lead_of.ensures ∙ sym more
 
 pub returns : goal.returns
 returns g c =

@@ -8,11 +8,10 @@ pub loop-place-preserved : goal.loop-place-preserved
 loop-place-preserved g c =
     let K = g.D.Delay.kind in let N = g.W.Wiring.net c.args.w.now in
     let inv = c.loop-place.invariant in
-    let items = c.in-ok-push.ensures.items in (
-      simp items (rows_more (PlaceTold K N) (vec_items c.loop-place.rows) c.loop-place.place c.place-row.result inv.0
-          c.place-row.ensures.row),
-      subst (λ xs. Filled K N xs c.place-row.new.from.table.now) (sym c.place-row.ensures.to-kept)
-          (subst (λ xs. Filled K N c.loop-place.to.table.now xs) (sym c.place-row.ensures.from-kept) inv.1),
+    let items = c.in_ok-push.ensures.items in (
+      simp items (rows_more (PlaceTold K N) (vec_items c.loop-place.rows) c.loop-place.place c.place_row.result inv.0 c.place_row.ensures.row),
+      subst (λ xs. Filled K N xs c.place_row.new.from.table.now) (sym c.place_row.ensures.to_kept)
+          (subst (λ xs. Filled K N c.loop-place.to.table.now xs) (sym c.place_row.ensures.from_kept) inv.1),
     )
 
 pub returns : goal.returns
