@@ -1,6 +1,6 @@
 -- Every choice has an outcome, only the witness is free in it, and an accepted list is right.
 use Rattle.std.proofs.Common.{◌≡◌, ℕ, ◌+◌, ◌<◌, ◌⊎◌, List, [], ◌∷◌, ◌++◌, length, take, drop, Ok, Err, Result, sym, refl, ap, ◌∙◌, subst, inl, inr, ⊎_elim, arith}
-use Rattle.std.specs.List.{AllByRecursion as All}
+use Rattle.std.specs.List.{AllByRecursion}
 use Rattle.std.proofs.lemmas.List.{take_at, drop_at}
 use Rattle.std.proofs.ByRecursion.{All-weaker}
 use Rattle.std.proofs.lemmas.Bool.{cases_lt}
@@ -114,7 +114,7 @@ module _ {D : Type 0} {K : Kind D} {N : Net D} {g : Lent} where
           (enough_or_short ps r.1)
 
 -- the leads of a run are places
-run_places : {D : Type 0} {N : Net D} {u v : ℕ} {ks : List ℕ} → Run N u v ks → All (λ k. k < N.places) ks
+run_places : {D : Type 0} {N : Net D} {u v : ℕ} {ks : List ℕ} → Run N u v ks → AllByRecursion (λ k. k < N.places) ks
 run_places (stay e) = tt
 run_places {N = N} (along {k = k} l h t r) = (below_places N k l h, run_places r)
 
@@ -138,11 +138,11 @@ listed {n = n} (accepted f ps X E p) e = record { sound = f; paths = ps; list = 
 pub words_taken : {D : Type 0} {K : Kind D} {N : Net D} {g : Lent} {c : Choice} {n : Counts} (X : Listed K N g n c) → take n.words c.word_row ≡ words X.paths
 words_taken {g = g} {n = n} X = ap (take n.words) X.accepts.word_row ∙ over_front g.word_row (words X.paths) n.words (sym (ap (λ (m : Counts). m.words) X.is))
 
-all_append : (P : ℕ → Type 0) (xs ys : List ℕ) → All P xs → All P ys → All P (xs ++ ys)
+all_append : (P : ℕ → Type 0) (xs ys : List ℕ) → AllByRecursion P xs → AllByRecursion P ys → AllByRecursion P (xs ++ ys)
 all_append P [] ys a b = b
 all_append P (x ∷ xs) ys a b = (a.0, all_append P xs ys a.1 b)
 
-words_below : (m : ℕ) (ps : List (List ℕ)) → ((p : List ℕ) → OneOf ps p → (length p < m) × All (λ k. k < m) p) → All (λ w. w < m) (words ps)
+words_below : (m : ℕ) (ps : List (List ℕ)) → ((p : List ℕ) → OneOf ps p → (length p < m) × AllByRecursion (λ k. k < m) p) → AllByRecursion (λ w. w < m) (words ps)
 words_below m [] h = tt
 words_below m (p ∷ ps) h =
     let here = h p (inl refl) in

@@ -1,6 +1,6 @@
 -- What holds of every choice, and of the lists of sheets, whatever calls made them.
 use Rattle.std.specs.Prelude.{◌≡◌, ℕ, ◌<◌, ◌≤◌, List, length, take, drop, Ok, Err, Result}
-use Rattle.std.specs.List.{AllByRecursion as All}
+use Rattle.std.specs.List.{AllByRecursion}
 use Rattle.delay.specs.Kind.{Kind}
 use Rattle.wiring.specs.Net.{Net, Sound}
 use Rattle.wiring.specs.Lists.{ListOf, words, AllPaths, CoversAll, Witness}
@@ -35,7 +35,7 @@ pub record Right {D : Type 0} (K : Kind D) (N : Net D) (n : Counts) (c : Choice)
   pub path_number : length paths ≡ n.paths
   pub word_number : length (words paths) ≡ n.words
   pub words_are : take n.words c.word_row ≡ words paths
-  pub words_fit : All (λ w. w < 4096) (words paths)
+  pub words_fit : AllByRecursion (λ w. w < 4096) (words paths)
   pub are_paths : AllPaths N paths
   pub covers : CoversAll K N paths
   pub least : (qs : List (List ℕ)) → AllPaths N qs → CoversAll K N qs → n.paths ≤ length qs

@@ -1,7 +1,7 @@
 -- Wirings that break two of choose's rules at once, and the refusal that comes first; what just enough room is; and what choose makes of the
 -- rows of small wirings.
 use Rattle.std.specs.Prelude.{◌≡◌, ℕ, ◌<◌, List, [], ◌∷◌, length, take, replicate, Some, None, Ok, Err, Option}
-use Rattle.std.specs.List.{AllByRecursion as All}
+use Rattle.std.specs.List.{AllByRecursion}
 use Rattle.delay.specs.Kind.{Kind}
 use Rattle.delay.specs.declared.Picoseconds.{Picoseconds}
 use Rattle.delay.specs.Delivered.{picoseconds_of, picosecond_kind}
@@ -55,7 +55,7 @@ choose_order =
     ∷ []
 
 abbrev pub OrdersStand : Type 0
-OrdersStand = All RefusedSo choose_order
+OrdersStand = AllByRecursion RefusedSo choose_order
 
 -- where the definitions give a row of the table, choose refuses a word row shorter than its words, and what it accepts begins with them
 abbrev pub RowChosen : {D : Type 0} → Kind D → Row → Type 0
@@ -91,4 +91,4 @@ ChosenSo g ws = (c : Choice) → Chosen picosecond_kind (wired picosecond_kind o
 pub record RoomStands : Type 0 where
   pub just : ChosenSo (room 2 2 1 3 2 1) (1 ∷ 0 ∷ [])
   pub more : ChosenSo (room 9 9 9 9 4 9) (1 ∷ 0 ∷ 7 ∷ 7 ∷ [])
-  pub less : All ShortSo (room 1 2 1 3 2 1 ∷ room 2 1 1 3 2 1 ∷ room 2 2 0 3 2 1 ∷ room 2 2 1 2 2 1 ∷ room 2 2 1 3 1 1 ∷ room 2 2 1 3 2 0 ∷ [])
+  pub less : AllByRecursion ShortSo (room 1 2 1 3 2 1 ∷ room 2 1 1 3 2 1 ∷ room 2 2 0 3 2 1 ∷ room 2 2 1 2 2 1 ∷ room 2 2 1 3 1 1 ∷ room 2 2 1 3 2 0 ∷ [])

@@ -1,6 +1,6 @@
 -- What a refused call leaves, and what an accepted edit changes.
 use Rattle.std.proofs.Common.{◌≡◌, ℕ, ◌<◌, List, [], ◌∷◌, length, Some, None, refl, ap, ◌∙◌, arith}
-use Rattle.std.specs.List.{AllByRecursion as All}
+use Rattle.std.specs.List.{AllByRecursion}
 use Rattle.std.proofs.lemmas.List.{length-set, get_or-set_same, get_or-set_other}
 use Rattle.std.proofs.lemmas.Bool.{ltb-true}
 use Rattle.wiring.specs.declared.refusals.Refusal.{Refusal}
@@ -21,7 +21,7 @@ accepted_leaves f t r e = let z : ◌≡◌ {A = ℕ} 0 1 = cc in absurd (omega 
 refused_leaves : (f : Refusal → PlainSheet) (s : PlainSheet) (q : Refusal) → s ≡ f q → Leaves f (refused s q)
 refused_leaves f s q h r e = let same : q ≡ r = cc in h ∙ ap f same
 
-judge_leaves : (f : Refusal → PlainSheet) (rs : List Rule) (s : PlainSheet) (o : Outcome) → All (λ (r : Rule). s ≡ f r.refusal) rs →
+judge_leaves : (f : Refusal → PlainSheet) (rs : List Rule) (s : PlainSheet) (o : Outcome) → AllByRecursion (λ (r : Rule). s ≡ f r.refusal) rs →
     Leaves f o → Leaves f (judge rs s o)
 judge_leaves f [] s o h g = g
 judge_leaves f (r ∷ rs) s o h g =

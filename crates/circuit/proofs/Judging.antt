@@ -1,13 +1,13 @@
 -- Rules judged in order: either the first broken one decides, or all are kept.
 use Rattle.std.proofs.Common.{◌≡◌, Bool, true, false, cond, List, [], ◌∷◌, refl, ◌∙◌}
-use Rattle.std.specs.List.{AllByRecursion as All}
+use Rattle.std.specs.List.{AllByRecursion}
 use Rattle.std.proofs.lemmas.Bool.{cond-true}
 use Rattle.wiring.specs.declared.refusals.Refusal.{Refusal}
 use Rattle.circuit.specs.Sheet.{PlainSheet}
 use Rattle.circuit.specs.Calls.{Rule, Outcome, refused, judge}
 
 abbrev pub AllKept : List Rule → Type 0
-AllKept rs = All (λ (r : Rule). r.kept ≡ true) rs
+AllKept rs = AllByRecursion (λ (r : Rule). r.kept ≡ true) rs
 
 -- one rule: kept, or broken
 pub one_rule : (Q : Outcome → Type 0) (b : Bool) (o p : Outcome) → (b ≡ true → Q o) → Q p → Q (cond b o p)

@@ -1,6 +1,6 @@
 -- Every history of calls keeps the limits of a sheet.
 use Rattle.std.proofs.Common.{◌≡◌, ℕ, zero, suc, ◌≤◌, true, ◌&&◌, ltb, leb, List, [], ◌∷◌, length, take, drop, replicate, Some, None, Option, subst, le_trans, arith}
-use Rattle.std.specs.List.{AllByRecursion as All}
+use Rattle.std.specs.List.{AllByRecursion}
 use Rattle.std.specs.Int.Digits.{number_from_digits}
 use Rattle.std.proofs.lemmas.List.{length-set, length-replicate, length-take}
 use Rattle.std.proofs.ByRecursion.{All-get_or, All-set, All-drop}
@@ -19,11 +19,11 @@ use Rattle.circuit.proofs.Judging.{AllKept, judge_either}
 both_at_most : (a b m n : ℕ) → (leb a m && leb b n) ≡ true → (a ≤ m) × (b ≤ n)
 both_at_most a b m n e = let p = and_parts (leb a m) (leb b n) e in (leb-true a m p.0, leb-true b n p.1)
 
-signs_from : (xs : List ℕ) → all_signs xs ≡ true → All (λ x. x ≤ 1) xs
+signs_from : (xs : List ℕ) → all_signs xs ≡ true → AllByRecursion (λ x. x ≤ 1) xs
 signs_from [] e = tt
 signs_from (x ∷ xs) e = let p = and_parts (leb x 1) (all_signs xs) e in (leb-true x 1 p.0, signs_from xs p.1)
 
-vacant_places : (n m : ℕ) → All (PlaceLimits n) (replicate m None)
+vacant_places : (n m : ℕ) → AllByRecursion (PlaceLimits n) (replicate m None)
 vacant_places n zero = tt
 vacant_places n (suc m) = (tt, vacant_places n m)
 
@@ -84,23 +84,23 @@ ByteContacts r = Byte r.lead.delay.contacts
 abbrev SheetLimits : Tables → Outcome → Type 0
 SheetLimits z o = Limits z o.sheet
 
-laid_limits : (z : Tables) (s : PlainSheet) (rs : List LeadRecord) → Limits z s → All ByteContacts rs → SheetLimits z (laid s rs)
+laid_limits : (z : Tables) (s : PlainSheet) (rs : List LeadRecord) → Limits z s → AllByRecursion ByteContacts rs → SheetLimits z (laid s rs)
 laid_limits z s [] h c = h
 laid_limits z s (r ∷ rs) h c =
     let e = lay r.lead in
     judge_either (SheetLimits z) (edit_rules s r.place e) empty (laid (edit_at s r.place e) rs) (λ _. empty_limits z)
     (λ kept. laid_limits z (edit_at s r.place e) rs (edit_limits z s r.place e h c.0 kept) c.1)
 
-one_byte : (bs : List ℕ) → All Byte bs → Byte (number_from_digits 256 (take 1 bs))
+one_byte : (bs : List ℕ) → AllByRecursion Byte bs → Byte (number_from_digits 256 (take 1 bs))
 one_byte [] h = omega arith
 one_byte (b ∷ bs) h = omega arith
 
-byte_contacts : (n : ℕ) (bs : List ℕ) → All Byte bs → All ByteContacts (first_records n bs)
+byte_contacts : (n : ℕ) (bs : List ℕ) → AllByRecursion Byte bs → AllByRecursion ByteContacts (first_records n bs)
 byte_contacts zero bs h = tt
 byte_contacts (suc n) bs h =
     (one_byte (drop 14 bs) (All-drop Byte 14 bs h), byte_contacts n (drop 15 bs) (All-drop Byte 15 bs h))
 
-loaded_limits : (z : Tables) (bs : List ℕ) → All Byte bs → AllKept (load_rules z bs) →
+loaded_limits : (z : Tables) (bs : List ℕ) → AllByRecursion Byte bs → AllKept (load_rules z bs) →
     SheetLimits z (laid (fresh (signs_in bs) (header_in bs).places) (records_in bs))
 loaded_limits z bs b kept =
     let h = header_in bs in let behind = record_start h.nodes 0 in
@@ -120,7 +120,7 @@ step_limits z s (at_place k e) h c =
     judge_either (SheetLimits z) (edit_rules s k e) s (accepted (edit_at s k e)) (λ _. h) (edit_limits z s k e h c)
 step_limits z s choose h c = h
 
-further_limits : (z : Tables) (s : PlainSheet) (cs : List Call) → Limits z s → All Handed cs → Limits z (further z s cs)
+further_limits : (z : Tables) (s : PlainSheet) (cs : List Call) → Limits z s → AllByRecursion Handed cs → Limits z (further z s cs)
 further_limits z s [] h c = h
 further_limits z s (x ∷ xs) h c = further_limits z (step z s x).sheet xs (step_limits z s x h c.0) c.1
 

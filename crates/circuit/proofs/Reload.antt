@@ -1,6 +1,6 @@
 -- A sheet written to a file and loaded again is the same sheet.
 use Rattle.std.proofs.Common.{◌≡◌, ℕ, suc, ◌+◌, ◌≤◌, true, not, ◌&&◌, ltb, leb, List, [], ◌∷◌, ◌++◌, length, take, drop, replicate, Some, None, Option, sym, refl, ap, ◌∙◌, subst, ap₂, arith}
-use Rattle.std.specs.List.{flat_map, AllByRecursion as All}
+use Rattle.std.specs.List.{flat_map, AllByRecursion}
 use Rattle.std.proofs.lemmas.List.{append_assoc, length-append, get_or_at, set_at, take_at, drop_at, drop-drop}
 use Rattle.std.proofs.ByRecursion.{All-weaker}
 use Rattle.std.proofs.lemmas.Bool.{and_from, lt-ltb, le-leb, eq-eqb}
@@ -17,7 +17,7 @@ use Rattle.circuit.proofs.FileForm.{RecordFits, records_back, header_back, file_
 both_at_most : (a b m n : ℕ) → a ≤ m → b ≤ n → (leb a m && leb b n) ≡ true
 both_at_most a b m n h k = and_from (leb a m) (leb b n) (le-leb a m h) (le-leb b n k)
 
-signs_to : (xs : List ℕ) → All (λ x. x ≤ 1) xs → all_signs xs ≡ true
+signs_to : (xs : List ℕ) → AllByRecursion (λ x. x ≤ 1) xs → all_signs xs ≡ true
 signs_to [] h = refl
 signs_to (x ∷ xs) h = and_from (leb x 1) (all_signs xs) (le-leb x 1 h.0) (signs_to xs h.1)
 
@@ -46,7 +46,7 @@ module _ (signs : List ℕ) where
       )
 
   -- with the places of front filled, the records of the rest fill the rest
-  laid_all : (front rest : Places) (k : ℕ) → length front ≡ k → All (PlaceLimits (length signs)) rest →
+  laid_all : (front rest : Places) (k : ℕ) → length front ≡ k → AllByRecursion (PlaceLimits (length signs)) rest →
       laid (sheet signs (front ++ replicate (length rest) None)) (records_from k rest) ≡ accepted (sheet signs (front ++ rest))
   laid_all front [] k e h = refl
   laid_all front (Some l ∷ rest) k e h =
@@ -66,7 +66,7 @@ module _ (signs : List ℕ) where
       ∙ ap (λ ps. accepted (sheet signs ps)) (append_assoc front (None ∷ []) rest))
 
 -- the leads of a sheet within its limits fit their fields
-records_fit : (n k : ℕ) (ps : Places) → n ≤ most_nodes → k + length ps ≤ most_places → All (PlaceLimits n) ps → All RecordFits (records_from k ps)
+records_fit : (n k : ℕ) (ps : Places) → n ≤ most_nodes → k + length ps ≤ most_places → AllByRecursion (PlaceLimits n) ps → AllByRecursion RecordFits (records_from k ps)
 records_fit n k [] i j h = tt
 records_fit n k (Some l ∷ ps) i j h = let o = h.0 in (
   record {
@@ -133,7 +133,7 @@ module _ {z : Tables} {s : PlainSheet} (h : Limits z s) where
       ) in
       subst AllKept (sym (ap₂ (file_rules y size) header_is signs_are)) kept
 
-  pub written_is_bytes : All Byte (written s)
+  pub written_is_bytes : AllByRecursion Byte (written s)
   written_is_bytes = file_is_bytes s.signs (length s.leads) rs (All-weaker (λ x. x ≤ 1) Byte (λ x i. omega arith) s.signs h.signs)
 
   -- whatever was held before, and into any tables with room

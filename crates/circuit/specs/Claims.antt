@@ -1,6 +1,6 @@
 -- What holds of every sheet, whatever calls made it.
 use Rattle.std.specs.Prelude.{◌≡◌, ℕ, ◌<◌, ◌≤◌, Bool, cond, ◌||◌, length, Some, None, ◌==◌, ◌≢◌}
-use Rattle.std.specs.List.{AllByRecursion as All}
+use Rattle.std.specs.List.{AllByRecursion}
 use Rattle.delay.specs.Kind.{Kind}
 use Rattle.wiring.specs.Net.{Sound}
 use Rattle.wiring.specs.declared.refusals.Refusal.{Refusal}
@@ -61,14 +61,14 @@ module _ {D : Type 0} (K : Kind D) where
 -- the sample stands, what is just within the limits is accepted, and what breaks one rule is refused by that rule
 pub record ExamplesStand : Type 0 where
   pub sample : SampleStands
-  pub accepts : All Answered accepted_examples
-  pub refuses_openings : All Answered refused_openings
-  pub refuses_edits : All Answered refused_edits
+  pub accepts : AllByRecursion Answered accepted_examples
+  pub refuses_openings : AllByRecursion Answered refused_openings
+  pub refuses_edits : AllByRecursion Answered refused_edits
 
 -- of two rules broken at once, each call tells the one that its order has first
 pub record CallsJudgeInOrder : Type 0 where
-  pub load_in_order : All Answered load_order
-  pub open_in_order : All Answered open_order
-  pub lay_in_order : All Answered lay_order
-  pub retime_in_order : All Answered retime_order
-  pub lift_in_order : All Answered lift_order
+  pub load_in_order : AllByRecursion Answered load_order
+  pub open_in_order : AllByRecursion Answered open_order
+  pub lay_in_order : AllByRecursion Answered lay_order
+  pub retime_in_order : AllByRecursion Answered retime_order
+  pub lift_in_order : AllByRecursion Answered lift_order

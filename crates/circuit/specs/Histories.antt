@@ -1,6 +1,6 @@
 -- Histories: the sheets that calls make of an empty one.
 use Rattle.std.specs.Prelude.{◌≡◌, List, [], ◌∷◌}
-use Rattle.std.specs.List.{AllByRecursion as All}
+use Rattle.std.specs.List.{AllByRecursion}
 use Rattle.circuit.specs.File.{Byte}
 use Rattle.circuit.specs.Sheet.{PlainSheet, empty, Tables}
 use Rattle.circuit.specs.Calls.{Edit, lay, retime, lift, Call, open_with, load, at_place, choose, step}
@@ -22,12 +22,12 @@ HandedEdit lift = Unit {0}
 
 abbrev pub Handed : Call → Type 0
 Handed (open_with signs places) = Unit {0}
-Handed (load bs) = All Byte bs
+Handed (load bs) = AllByRecursion Byte bs
 Handed (at_place k e) = HandedEdit e
 Handed choose = Unit {0}
 
 -- s is what some calls, refused ones among them, make of an empty sheet in these tables
 pub record History (z : Tables) (s : PlainSheet) : Type 0 where
   pub calls : List Call
-  pub handed : All Handed calls
+  pub handed : AllByRecursion Handed calls
   pub makes : after z calls ≡ s

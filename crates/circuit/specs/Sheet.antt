@@ -1,6 +1,6 @@
 -- The plain sheet: what a circuit under edit holds, the limits that it keeps, and the file that it is written to.
 use Rattle.std.specs.Prelude.{ℕ, suc, ◌<◌, ◌≤◌, List, [], ◌∷◌, length, Some, None, count_by, Option, slice_index_or}
-use Rattle.std.specs.List.{AllByRecursion as All}
+use Rattle.std.specs.List.{AllByRecursion}
 use Rattle.wiring.specs.declared.Lead.{Lead}
 use Rattle.wiring.specs.Net.{stands}
 use Rattle.circuit.specs.declared.Times.{Times}
@@ -58,8 +58,8 @@ pub record Limits (z : Tables) (s : PlainSheet) : Type 0 where
   pub few_places : length s.leads ≤ most_places
   pub node_room : length s.signs ≤ z.nodes
   pub place_room : length s.leads ≤ z.places
-  pub signs : All (λ x. x ≤ 1) s.signs
-  pub leads : All (PlaceLimits (length s.signs)) s.leads
+  pub signs : AllByRecursion (λ x. x ≤ 1) s.signs
+  pub leads : AllByRecursion (PlaceLimits (length s.signs)) s.leads
 
 -- the leads of these places in ascending number, where the first place has the number k
 abbrev pub records_from : ℕ → List (Option (Lead Times)) → List LeadRecord

@@ -1,6 +1,6 @@
 -- The definitions give every row of the table of small wirings: each row has a certificate, and one test that computes goes over all of them.
 use Rattle.std.proofs.Common.{◌≡◌, ℕ, Bool, true, false, not, ◌&&◌, ◌||◌, eqb, List, [], ◌∷◌, length, get_or, sym, refl}
-use Rattle.std.specs.List.{AllByRecursion as All}
+use Rattle.std.specs.List.{AllByRecursion}
 use Rattle.std.proofs.lemmas.Bool.{both_ways, and_parts, eqb-true}
 use Rattle.delay.specs.Kind.{Kind, Laws}
 use Rattle.delay.specs.Delivered.{picosecond_kind, contact_kind, early_kind}
@@ -80,7 +80,7 @@ rows_test [] cs = true
 rows_test (r ∷ rs) [] = false
 rows_test (r ∷ rs) (c ∷ cs) = test_as r.kind r c && rows_test rs cs
 
-rows_by_test : (rs : List Row) (cs : List Certificate) → rows_test rs cs ≡ true → All (λ r. Given r.kind r) rs
+rows_by_test : (rs : List Row) (cs : List Certificate) → rows_test rs cs ≡ true → AllByRecursion (λ r. Given r.kind r) rs
 rows_by_test [] cs e = tt
 rows_by_test (r ∷ rs) [] e = absurd (both_ways false refl e)
 rows_by_test (r ∷ rs) (c ∷ cs) e =

@@ -1,6 +1,6 @@
 -- Nine small wirings with the words of their lists.
 use Rattle.std.specs.Prelude.{◌≡◌, ℕ, ◌<◌, Bool, true, false, List, [], ◌∷◌, map, length, Some, Option, slice_index_or}
-use Rattle.std.specs.List.{AllByRecursion as All}
+use Rattle.std.specs.List.{AllByRecursion}
 use Rattle.delay.specs.Kind.{Kind}
 use Rattle.delay.specs.Delivered.{picosecond_kind, contact_kind, early_kind}
 use Rattle.wiring.specs.declared.Lead.{Lead}
@@ -81,4 +81,4 @@ rows =
 
 -- every row is what the definitions give
 abbrev pub RowsAreGiven : Type 0
-RowsAreGiven = All (λ r. Given r.kind r) rows
+RowsAreGiven = AllByRecursion (λ r. Given r.kind r) rows

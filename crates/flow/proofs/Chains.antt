@@ -1,6 +1,6 @@
 -- One more and one less along a chain, and how loads go on.
 use Rattle.std.proofs.Common.{◌≡◌, ℕ, ◌+◌, ◌-◌, ◌≤◌, Bool, true, cond, eqb, List, [], ◌∷◌, sym, refl, ap, ◌∙◌, ⊎_elim, arith}
-use Rattle.std.specs.List.{AllByRecursion as All}
+use Rattle.std.specs.List.{AllByRecursion}
 use Rattle.std.proofs.lemmas.Bool.{cases_eq, eqb-true, eq-eqb, ne_eqb, and_from, and_parts}
 use Rattle.wiring.specs.Lists.{count_on, lowered}
 use Rattle.flow.specs.Table.{Table, Sound, begins, ends}
@@ -17,7 +17,7 @@ pub chain_way : (T : Table) (u v : ℕ) (c : List ℕ) → Chain T u c v → Way
 chain_way T u v [] e = e
 chain_way T u v (k ∷ ks) C = (C.0, C.1, chain_way T (T.end k) v ks C.2)
 
-chain_along : (c : List ℕ) → All (λ s. s.along ≡ true) (steps_along c)
+chain_along : (c : List ℕ) → AllByRecursion (λ s. s.along ≡ true) (steps_along c)
 chain_along [] = tt
 chain_along (k ∷ ks) = (refl, chain_along ks)
 
@@ -38,7 +38,7 @@ chain_once T S u v c C k =
     let once = falling_once T (λ n. T.nodes - n) u v (steps_along c) (chain_way T u v c C) (falls u c C) k in
     omega (arith, chain_count c k)
   where
-    falls : (w : ℕ) (c : List ℕ) → Chain T w c v → All (Falls T (λ n. T.nodes - n)) (steps_along c)
+    falls : (w : ℕ) (c : List ℕ) → Chain T w c v → AllByRecursion (Falls T (λ n. T.nodes - n)) (steps_along c)
     falls w [] e = tt
     falls w (j ∷ js) D = (omega (arith, S.up j D.0, S.within j D.0), falls (T.end j) js D.2)
 

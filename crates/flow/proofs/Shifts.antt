@@ -1,6 +1,6 @@
 -- When shifted loads are loads.
 use Rattle.std.proofs.Common.{◌≡◌, ℕ, ◌+◌, ◌*◌, ◌<◌, ◌≤◌, Bool, true, false, cond, not, ◌&&◌, eqb, List, [], ◌∷◌, sym, refl, ap, ◌∙◌, subst, ⊎_elim, arith}
-use Rattle.std.specs.List.{AllByRecursion as All}
+use Rattle.std.specs.List.{AllByRecursion}
 use Rattle.std.proofs.lemmas.Bool.{cases_order, both_ways, eqb-true, eq-eqb, ne_eqb}
 use Rattle.std.proofs.ByRecursion.{All-weaker}
 use Rattle.flow.specs.Table.{Table, Sound}
@@ -9,12 +9,12 @@ use Rattle.flow.specs.Ways.{Step, Way, step_from, step_to, along_count, against_
 use Rattle.flow.proofs.Ways.{shift_round, shift_down}
 
 -- a way steps on arcs only
-way_arcs : (T : Table) (u v : ℕ) (ss : List Step) → Way T u ss v → All (λ s. T.arc s.place ≡ true) ss
+way_arcs : (T : Table) (u v : ℕ) (ss : List Step) → Way T u ss v → AllByRecursion (λ s. T.arc s.place ≡ true) ss
 way_arcs T u v [] e = tt
 way_arcs T u v (s ∷ ss) W = (W.0, way_arcs T (step_to T s) v ss W.2)
 
 -- a place that no step has is not counted
-not_counted : (ss : List Step) (k : ℕ) → All (λ s. s.place ≡ k → ⊥) ss → (along_count ss k ≡ 0) × (against_count ss k ≡ 0)
+not_counted : (ss : List Step) (k : ℕ) → AllByRecursion (λ s. s.place ≡ k → ⊥) ss → (along_count ss k ≡ 0) × (against_count ss k ≡ 0)
 not_counted [] k h = (refl, refl)
 not_counted (s ∷ ss) k h =
     let rest = not_counted ss k h.1 in
@@ -32,7 +32,7 @@ vacant_not_counted T u v ss W k e =
     (λ s a q. both_ways (T.arc k) e (subst (λ (x : ℕ). T.arc x ≡ true) q a)) ss (way_arcs T u v ss W))
 
 -- where a step goes against k there is slack
-slack_at : (d : ℕ) (f : ℕ → ℕ) (ss : List Step) → All (Slack d f) ss → (k : ℕ) → 1 ≤ against_count ss k → d + 1 ≤ f k
+slack_at : (d : ℕ) (f : ℕ → ℕ) (ss : List Step) → AllByRecursion (Slack d f) ss → (k : ℕ) → 1 ≤ against_count ss k → d + 1 ≤ f k
 slack_at d f [] h k l = absurd (omega arith)
 slack_at d f (s ∷ ss) h k l = go s.along (eqb s.place k) refl refl l (slack_at d f ss h.1 k)
   where
@@ -43,7 +43,7 @@ slack_at d f (s ∷ ss) h k l = go s.along (eqb s.place k) refl refl l (slack_at
     go false false p q m later = later (omega arith)
 
 -- loads stay at least 1
-shift_arcs : (d : ℕ) (ss : List Step) (f g : ℕ → ℕ) → Shifted d ss f g → Once ss → All (Slack d f) ss → (k : ℕ) → 1 ≤ f k → 1 ≤ g k
+shift_arcs : (d : ℕ) (ss : List Step) (f g : ℕ → ℕ) → Shifted d ss f g → Once ss → AllByRecursion (Slack d f) ss → (k : ℕ) → 1 ≤ f k → 1 ≤ g k
 shift_arcs d ss f g h o a k l = ⊎_elim one (⊎_elim none more) (cases_order (against_count ss k) 1)
   where
     one : against_count ss k ≡ 1 → 1 ≤ g k
@@ -70,7 +70,7 @@ shift_vacant T u v d ss W f g h k e z =
     omega (arith, h k)
 
 -- a place that is not stepped keeps its load
-pub shift_keeps : (d : ℕ) (ss : List Step) (f g : ℕ → ℕ) → Shifted d ss f g → (k : ℕ) → All (λ s. s.place ≡ k → ⊥) ss → g k ≡ f k
+pub shift_keeps : (d : ℕ) (ss : List Step) (f g : ℕ → ℕ) → Shifted d ss f g → (k : ℕ) → AllByRecursion (λ s. s.place ≡ k → ⊥) ss → g k ≡ f k
 shift_keeps d ss f g h k a =
     let nowhere = not_counted ss k a in
     let more = ap (λ (x : ℕ). d * x) nowhere.0 in
@@ -78,7 +78,7 @@ shift_keeps d ss f g h k a =
     omega (arith, h k)
 
 -- with slack, what is shifted stays loads, if it stays balanced
-loads_shifted : (T : Table) (u v d : ℕ) (ss : List Step) → Way T u ss v → (f g : ℕ → ℕ) → Shifted d ss f g → Once ss → All (Slack d f) ss →
+loads_shifted : (T : Table) (u v d : ℕ) (ss : List Step) → Way T u ss v → (f g : ℕ → ℕ) → Shifted d ss f g → Once ss → AllByRecursion (Slack d f) ss →
     Loads T f → Balanced T g → Loads T g
 loads_shifted T u v d ss W f g h o a L B = record {
   arcs = λ k e. shift_arcs d ss f g h o a k (L.arcs k e);
@@ -87,19 +87,19 @@ loads_shifted T u v d ss W f g h o a L B = record {
 }
 
 -- round a closed way the total stays
-loads_round : (T : Table) → Sound T → (u d : ℕ) (ss : List Step) → Way T u ss u → (f g : ℕ → ℕ) → Shifted d ss f g → Once ss → All (Slack d f) ss →
+loads_round : (T : Table) → Sound T → (u d : ℕ) (ss : List Step) → Way T u ss u → (f g : ℕ → ℕ) → Shifted d ss f g → Once ss → AllByRecursion (Slack d f) ss →
     Loads T f → Loads T g × (total T g ≡ total T f)
 loads_round T S u d ss W f g h o a L =
     let both = shift_round T S u d ss W f g h L.balanced in (loads_shifted T u u d ss W f g h o a L both.0, both.1)
 
 -- from the sink to the source the total falls by d
 pub loads_down : (T : Table) → Sound T → (d : ℕ) (ss : List Step) → Way T T.sink ss T.source → (f g : ℕ → ℕ) → Shifted d ss f g → Once ss →
-    All (Slack d f) ss → Loads T f → Loads T g × (total T g + d ≡ total T f)
+    AllByRecursion (Slack d f) ss → Loads T f → Loads T g × (total T g + d ≡ total T f)
 loads_down T S d ss W f g h o a L =
     let both = shift_down T S d ss W f g h L.balanced in (loads_shifted T T.sink T.source d ss W f g h o a L both.0, both.1)
 
 -- one more step, below all the others
-pub once_more : (k : ℕ) (ss : List Step) → Once ss → All (λ s. k < s.place) ss → Once (back k ∷ ss)
+pub once_more : (k : ℕ) (ss : List Step) → Once ss → AllByRecursion (λ s. k < s.place) ss → Once (back k ∷ ss)
 once_more k ss o above j = go (eqb k j) refl
   where
     nowhere : (along_count ss k ≡ 0) × (against_count ss k ≡ 0)
@@ -112,7 +112,7 @@ once_more k ss o above j = go (eqb k j) refl
 -- the arc k lowered by d, and d more along a way from its begin to its end: over places above k, with slack.
 -- Loads stay loads, the total and what stands below k stay, and k falls by d
 pub loads_lowered : (T : Table) → Sound T → (k d : ℕ) (ss : List Step) → T.arc k ≡ true → Way T (T.begin k) ss (T.end k) → (f g : ℕ → ℕ) →
-    Shifted d (back k ∷ ss) f g → Once ss → All (Slack d f) ss → All (λ s. k < s.place) ss → d + 1 ≤ f k → Loads T f →
+    Shifted d (back k ∷ ss) f g → Once ss → AllByRecursion (Slack d f) ss → AllByRecursion (λ s. k < s.place) ss → d + 1 ≤ f k → Loads T f →
     Loads T g × (total T g ≡ total T f) × ((j : ℕ) → j < k → g j ≡ f j) × (g k + d ≡ f k)
 loads_lowered T S k d ss a W f g h o sl above room L =
     let closed = loads_round T S (T.end k) d (back k ∷ ss) (a, refl, W) f g h (once_more k ss o above) ((λ e. room), sl) L in (
@@ -136,7 +136,7 @@ loads_lowered T S k d ss a W f g h o sl above room L =
 pub shifted_is : (d : ℕ) (ss : List Step) (f : ℕ → ℕ) → ((k : ℕ) → d * against_count ss k ≤ f k + d * along_count ss k) → Shifted d ss f (shifted d ss f)
 shifted_is d ss f h k = omega (arith, h k)
 
-pub slack_enough : (d : ℕ) (ss : List Step) (f : ℕ → ℕ) → Once ss → All (Slack d f) ss → (k : ℕ) → d * against_count ss k ≤ f k + d * along_count ss k
+pub slack_enough : (d : ℕ) (ss : List Step) (f : ℕ → ℕ) → Once ss → AllByRecursion (Slack d f) ss → (k : ℕ) → d * against_count ss k ≤ f k + d * along_count ss k
 slack_enough d ss f o a k = ⊎_elim one (⊎_elim none more) (cases_order (against_count ss k) 1)
   where
     one : against_count ss k ≡ 1 → d * against_count ss k ≤ f k + d * along_count ss k
@@ -155,7 +155,7 @@ slack_enough d ss f o a k = ⊎_elim one (⊎_elim none more) (cases_order (agai
     more m = omega (arith, o k)
 
 -- on a way on which a number of the nodes falls, no place is stepped twice
-falling_from : (T : Table) (rank : ℕ → ℕ) (u v : ℕ) (ss : List Step) → Way T u ss v → All (Falls T rank) ss → All (λ s. rank (step_from T s) ≤ rank u) ss
+falling_from : (T : Table) (rank : ℕ → ℕ) (u v : ℕ) (ss : List Step) → Way T u ss v → AllByRecursion (Falls T rank) ss → AllByRecursion (λ s. rank (step_from T s) ≤ rank u) ss
 falling_from T rank u v [] W h = tt
 falling_from T rank u v (s ∷ ss) W h =
     let start = ap rank W.1 in
@@ -163,15 +163,15 @@ falling_from T rank u v (s ∷ ss) W h =
     let rest = falling_from T rank (step_to T s) v ss W.2 h.1 in
     (omega arith, All-weaker (λ r. rank (step_from T r) ≤ rank (step_to T s)) (λ r. rank (step_from T r) ≤ rank u) (λ r l. omega arith) ss rest)
 
-all_both : {X : Type 0} (P Q : X → Type 0) (xs : List X) → All P xs → All Q xs → All (λ x. P x × Q x) xs
+all_both : {X : Type 0} (P Q : X → Type 0) (xs : List X) → AllByRecursion P xs → AllByRecursion Q xs → AllByRecursion (λ x. P x × Q x) xs
 all_both P Q [] p q = tt
 all_both P Q (x ∷ xs) p q = ((p.0, q.0), all_both P Q xs p.1 q.1)
 
-pub falling_once : (T : Table) (rank : ℕ → ℕ) (u v : ℕ) (ss : List Step) → Way T u ss v → All (Falls T rank) ss → Once ss
+pub falling_once : (T : Table) (rank : ℕ → ℕ) (u v : ℕ) (ss : List Step) → Way T u ss v → AllByRecursion (Falls T rank) ss → Once ss
 falling_once T rank u v [] W h k = omega arith
 falling_once T rank u v (s ∷ ss) W h k = go (falling_once T rank (step_to T s) v ss W.2 h.1 k) s.along (eqb s.place k) refl
   where
-    later : All (λ r. Falls T rank r × (rank (step_from T r) ≤ rank (step_to T s))) ss
+    later : AllByRecursion (λ r. Falls T rank r × (rank (step_from T r) ≤ rank (step_to T s))) ss
     later = all_both (Falls T rank) (λ r. rank (step_from T r) ≤ rank (step_to T s)) ss h.1 (falling_from T rank (step_to T s) v ss W.2 h.1)
 
     differ : (r : Step) → Falls T rank r × (rank (step_from T r) ≤ rank (step_to T s)) → r.place ≡ s.place → ⊥
@@ -207,7 +207,7 @@ falling_once T rank u v (s ∷ ss) W h k = go (falling_once T rank (step_to T s)
     go rest false false q = omega arith
 
 -- steps along only
-pub none_against : (ss : List Step) → All (λ s. s.along ≡ true) ss → (k : ℕ) → against_count ss k ≡ 0
+pub none_against : (ss : List Step) → AllByRecursion (λ s. s.along ≡ true) ss → (k : ℕ) → against_count ss k ≡ 0
 none_against [] h k = refl
 none_against (s ∷ ss) h k =
     let rest = none_against ss h.1 k in

@@ -1,6 +1,6 @@
 -- From what a search leaves behind, a way; and how much can be shifted along it.
 use Rattle.std.proofs.Common.{◌≡◌, ℕ, zero, suc, ◌+◌, ◌-◌, ◌<◌, ◌≤◌, min, Bool, true, false, cond, List, [], ◌∷◌, sym, refl, ap, ◌∙◌, subst, ⊎_elim, arith}
-use Rattle.std.specs.List.{AllByRecursion as All}
+use Rattle.std.specs.List.{AllByRecursion}
 use Rattle.std.proofs.lemmas.Bool.{cases_eq}
 use Rattle.std.proofs.ByRecursion.{All-weaker}
 use Rattle.flow.specs.Table.{Table, Sound}
@@ -11,7 +11,7 @@ use Rattle.flow.proofs.Shifts.{falling_once, shifted_is, slack_enough, once_more
 
 -- a number of the nodes rises along the way, up to a bound
 pub rising_once : (T : Table) (depth : ℕ → ℕ) (most u v : ℕ) (ss : List Step) → Way T u ss v →
-    All (λ s. (depth (step_from T s) < depth (step_to T s)) × (depth (step_to T s) ≤ most)) ss → Once ss
+    AllByRecursion (λ s. (depth (step_from T s) < depth (step_to T s)) × (depth (step_to T s) ≤ most)) ss → Once ss
 rising_once T depth most u v ss W h =
     falling_once T (λ n. most - depth n) u v ss W
     (All-weaker (λ s. (depth (step_from T s) < depth (step_to T s)) × (depth (step_to T s) ≤ most)) (Falls T (λ n. most - depth n)) (λ s l. omega arith) ss h)
@@ -22,7 +22,7 @@ Good T f low depth most s = (low ≤ s.place) × (s.along ≡ false → 2 ≤ f 
     × (depth (step_to T s) ≤ most)
 
 -- along a way of such steps loads can be shifted
-abbrev pub good_found : (T : Table) (f : ℕ → ℕ) (low u v : ℕ) (depth : ℕ → ℕ) (ss : List Step) → Way T u ss v → All (Good T f low depth (depth v)) ss →
+abbrev pub good_found : (T : Table) (f : ℕ → ℕ) (low u v : ℕ) (depth : ℕ → ℕ) (ss : List Step) → Way T u ss v → AllByRecursion (Good T f low depth (depth v)) ss →
     Found T f low u v
 good_found T f low u v depth ss W G = record {
   steps = ss;
@@ -36,7 +36,7 @@ good_found T f low u v depth ss W G = record {
 
 walk_back : (T : Table) (f : ℕ → ℕ) (low u v : ℕ) (R : ℕ → Bool) (depth : ℕ → ℕ) (via : ℕ → Step) →
     ((w : ℕ) → R w ≡ true → (w ≡ u → ⊥) → Came T f low R depth (via w) w) → (n w : ℕ) → depth w < n → depth w ≤ depth v → R w ≡ true →
-    (ss : List Step) → Way T w ss v → All (Good T f low depth (depth v)) ss → Found T f low u v
+    (ss : List Step) → Way T w ss v → AllByRecursion (Good T f low depth (depth v)) ss → Found T f low u v
 walk_back T f low u v R depth via h zero w l m r ss W G = absurd (omega arith)
 walk_back T f low u v R depth via h (suc n) w l m r ss W G = ⊎_elim done (λ d. further d (h w r d) (walk_back T f low u v R depth via h n)) (cases_eq w u)
   where
@@ -44,7 +44,7 @@ walk_back T f low u v R depth via h (suc n) w l m r ss W G = ⊎_elim done (λ d
     done e = good_found T f low u v depth ss (subst (λ (x : ℕ). Way T x ss v) e W) G
 
     further : (w ≡ u → ⊥) → Came T f low R depth (via w) w →
-        ((x : ℕ) → depth x < n → depth x ≤ depth v → R x ≡ true → (ts : List Step) → Way T x ts v → All (Good T f low depth (depth v)) ts →
+        ((x : ℕ) → depth x < n → depth x ≤ depth v → R x ≡ true → (ts : List Step) → Way T x ts v → AllByRecursion (Good T f low depth (depth v)) ts →
         Found T f low u v) → Found T f low u v
     further d c rest =
         let s = via w in
@@ -68,24 +68,24 @@ slack_le f x (s ∷ ss) = go s.along (slack_le f x ss)
     go true l = l
     go false l = omega arith
 
-slack_weaker : (f : ℕ → ℕ) (d e : ℕ) (ss : List Step) → e ≤ d → All (Slack d f) ss → All (Slack e f) ss
+slack_weaker : (f : ℕ → ℕ) (d e : ℕ) (ss : List Step) → e ≤ d → AllByRecursion (Slack d f) ss → AllByRecursion (Slack e f) ss
 slack_weaker f d e ss l h = All-weaker (Slack d f) (Slack e f) (λ s g q. omega (arith, g q)) ss h
 
-pub slack_fits : (f : ℕ → ℕ) (x : ℕ) (ss : List Step) → All (λ s. s.along ≡ false → 2 ≤ f s.place) ss → All (Slack (slack_of f x ss) f) ss
+pub slack_fits : (f : ℕ → ℕ) (x : ℕ) (ss : List Step) → AllByRecursion (λ s. s.along ≡ false → 2 ≤ f s.place) ss → AllByRecursion (Slack (slack_of f x ss) f) ss
 slack_fits f x [] h = tt
 slack_fits f x (s ∷ ss) h = go s.along refl (slack_fits f x ss h.1)
   where
     low : (a : Bool) → ℕ
     low a = cond a (slack_of f x ss) (min (f s.place - 1) (slack_of f x ss))
 
-    go : (a : Bool) → s.along ≡ a → All (Slack (slack_of f x ss) f) ss → All (Slack (low s.along) f) (s ∷ ss)
-    go true e r = ((λ q. absurd (mathlib.Core.Bool.true≢false (sym e ∙ q))), subst (λ (b : Bool). All (Slack (low b) f) ss) (sym e) r)
+    go : (a : Bool) → s.along ≡ a → AllByRecursion (Slack (slack_of f x ss) f) ss → AllByRecursion (Slack (low s.along) f) (s ∷ ss)
+    go true e r = ((λ q. absurd (mathlib.Core.Bool.true≢false (sym e ∙ q))), subst (λ (b : Bool). AllByRecursion (Slack (low b) f) ss) (sym e) r)
     go false e r = (
       (λ q. subst (λ (b : Bool). low b + 1 ≤ f s.place) (sym e) (omega (arith, h.0 q))),
-      subst (λ (b : Bool). All (Slack (low b) f) ss) (sym e) (slack_weaker f (slack_of f x ss) (low false) ss (omega arith) r),
+      subst (λ (b : Bool). AllByRecursion (Slack (low b) f) ss) (sym e) (slack_weaker f (slack_of f x ss) (low false) ss (omega arith) r),
     )
 
-pub slack_some : (f : ℕ → ℕ) (x : ℕ) (ss : List Step) → 1 ≤ x → All (λ s. s.along ≡ false → 2 ≤ f s.place) ss → 1 ≤ slack_of f x ss
+pub slack_some : (f : ℕ → ℕ) (x : ℕ) (ss : List Step) → 1 ≤ x → AllByRecursion (λ s. s.along ≡ false → 2 ≤ f s.place) ss → 1 ≤ slack_of f x ss
 slack_some f x [] l h = l
 slack_some f x (s ∷ ss) l h = go s.along refl (slack_some f x ss l h.1)
   where

@@ -1,7 +1,7 @@
 -- The search for a way that loads can be shifted along, and what it leaves behind: for each node reached, the step that
 -- it was reached by and how deep it was.
 use Rattle.std.specs.Prelude.{◌≡◌, ℕ, ◌-◌, ◌<◌, ◌≤◌, min, Bool, true, false, cond, List, [], ◌∷◌, ◌==◌, ◌≢◌}
-use Rattle.std.specs.List.{AllByRecursion as All}
+use Rattle.std.specs.List.{AllByRecursion}
 use Rattle.wiring.specs.Loads.{sum_below}
 use Rattle.flow.specs.Table.{Table}
 use Rattle.flow.specs.Ways.{Step, Way, step_from, step_to, Once}
@@ -37,8 +37,8 @@ pub record Shut (T : Table) (f : ℕ → ℕ) (low : ℕ) (R : ℕ → Bool) : T
 pub record Found (T : Table) (f : ℕ → ℕ) (low u v : ℕ) : Type 0 where
   pub steps : List Step
   pub way : Way T u steps v
-  pub above : All (λ s. low ≤ s.place) steps
-  pub free : All (λ s. s.along ≡ false → 2 ≤ f s.place) steps
+  pub above : AllByRecursion (λ s. low ≤ s.place) steps
+  pub free : AllByRecursion (λ s. s.along ≡ false → 2 ≤ f s.place) steps
   pub once : Once steps
 
 -- the most that can be shifted: at most x, and one less than each load that is stepped against

@@ -1,6 +1,6 @@
 -- What shifts along ways come to, and what a search that finds none shows.
 use Rattle.std.proofs.Common.{◌≡◌, ℕ, suc, ◌+◌, ◌-◌, ◌<◌, ◌≤◌, Bool, true, false, ◌⊎◌, List, ◌∷◌, sym, refl, subst, inl, inr, ⊎_elim, add-one, arith}
-use Rattle.std.specs.List.{AllByRecursion as All}
+use Rattle.std.specs.List.{AllByRecursion}
 use Rattle.std.proofs.lemmas.Bool.{cases_Bool}
 use Rattle.std.proofs.ByRecursion.{All-weaker}
 use Rattle.flow.specs.Table.{Table, Sound}
@@ -33,11 +33,11 @@ pub slack_room : (T : Table) → Sound T → (f : ℕ → ℕ) → Loads T f →
 slack_room T S f L few x ss l d e k = omega (arith, load_le T S f L.balanced L.vacant k, slack_le f x ss)
 
 pub slack_all : (T : Table) (f : ℕ → ℕ) (low u v x : ℕ) (ns : List Mark) → TrailOf T f low u ns → reached_of ns v ≡ true →
-    (d : ℕ) → d ≡ slack_of f x (marked_way T ns u v) → All (Slack d f) (marked_way T ns u v)
+    (d : ℕ) → d ≡ slack_of f x (marked_way T ns u v) → AllByRecursion (Slack d f) (marked_way T ns u v)
 slack_all T f low u v x ns t r d e =
     let w = marked_found T f low u v ns t r in
-    let fits = subst (λ (ss : List Step). All (Slack (slack_of f x ss) f) ss) w.1 (slack_fits f x w.0.steps w.0.free) in
-    subst (λ (y : ℕ). All (Slack y f) (marked_way T ns u v)) (sym e) fits
+    let fits = subst (λ (ss : List Step). AllByRecursion (Slack (slack_of f x ss) f) ss) w.1 (slack_fits f x w.0.steps w.0.free) in
+    subst (λ (y : ℕ). AllByRecursion (Slack y f) (marked_way T ns u v)) (sym e) fits
 
 -- shifted from the sink to the source, the total is less
 pub reduced : (T : Table) → Sound T → (f g : ℕ → ℕ) (x : ℕ) (ns : List Mark) → Loads T f → 1 ≤ x → TrailOf T f 0 T.sink ns →

@@ -1,6 +1,6 @@
 -- Walking back by the marks of a search.
 use Rattle.std.proofs.Common.{◌≡◌, ℕ, zero, suc, ◌+◌, ◌-◌, ◌*◌, ◌<◌, ◌≤◌, min, Bool, true, false, cond, not, ◌&&◌, eqb, List, [], ◌∷◌, sym, refl, ap, ◌∙◌, subst, ⊎_elim, arith}
-use Rattle.std.specs.List.{AllByRecursion as All}
+use Rattle.std.specs.List.{AllByRecursion}
 use Rattle.std.proofs.lemmas.Bool.{cases_eq, eq-eqb, ne_eqb}
 use Rattle.flow.specs.Table.{Table}
 use Rattle.flow.specs.Ways.{Step, Way, step_from, Shifted, along_count, against_count}
@@ -18,7 +18,7 @@ pub record Walking (T : Table) (f : ℕ → ℕ) (low u to : ℕ) (ns : List Mar
   pub fuel : depth_of ns v < n
   pub same : walk T (via_of ns) u n v ss ≡ marked_way T ns u to
   pub way : Way T v ss to
-  pub good : All (Good T f low (depth_of ns) (depth_of ns to)) ss
+  pub good : AllByRecursion (Good T f low (depth_of ns) (depth_of ns to)) ss
 
 module _ (T : Table) (f : ℕ → ℕ) (low u to : ℕ) (ns : List Mark) where
   pub walk_start : reached_of ns to ≡ true → Walking T f low u to ns to [] (suc (depth_of ns to))
@@ -63,17 +63,17 @@ module _ (T : Table) (f : ℕ → ℕ) (low u to : ℕ) (ns : List Mark) where
           (cases_eq v u)
 
   -- what holds of every step of the way holds of those walked
-  pub walked_all : (P : Step → Type 0) (v : ℕ) (ss : List Step) (n : ℕ) → Walking T f low u to ns v ss n → All P (marked_way T ns u to) → All P ss
-  walked_all P v ss n W h = back n v ss (subst (All P) (sym W.same) h)
+  pub walked_all : (P : Step → Type 0) (v : ℕ) (ss : List Step) (n : ℕ) → Walking T f low u to ns v ss n → AllByRecursion P (marked_way T ns u to) → AllByRecursion P ss
+  walked_all P v ss n W h = back n v ss (subst (AllByRecursion P) (sym W.same) h)
     where
-      back : (n v : ℕ) (ss : List Step) → All P (walk T (via_of ns) u n v ss) → All P ss
+      back : (n v : ℕ) (ss : List Step) → AllByRecursion P (walk T (via_of ns) u n v ss) → AllByRecursion P ss
       back zero v ss h = h
       back (suc n) v ss h = go (back n (step_from T (via_of ns v)) (via_of ns v ∷ ss)) (eqb v u) h
         where
           on : List Step
           on = walk T (via_of ns) u n (step_from T (via_of ns v)) (via_of ns v ∷ ss)
 
-          go : (All P on → All P (via_of ns v ∷ ss)) → (b : Bool) → All P (cond b ss on) → All P ss
+          go : (AllByRecursion P on → AllByRecursion P (via_of ns v ∷ ss)) → (b : Bool) → AllByRecursion P (cond b ss on) → AllByRecursion P ss
           go rest true h = h
           go rest false h = (rest h).1
 

@@ -1,6 +1,6 @@
 //! Shifting loads along the way that a search found. The way is read back by the marks, from its end.
 ghost use Rattle.std.specs.Prelude.{◌≡◌, ℕ, ◌+◌, ◌<◌, ◌≤◌, true, false, [], ◌∷◌, length};
-ghost use Rattle.std.specs.List.{AllByRecursion as All};
+ghost use Rattle.std.specs.List.{AllByRecursion};
 ghost use Rattle.flow.specs.Ways.{Shifted, Slack, step_from};
 ghost use Rattle.flow.specs.Trails.{slack_of};
 ghost use Rattle.marks.specs.Marks.{load_of, reached_of, via_of};
@@ -64,7 +64,7 @@ pub fn shift(arcs: Arcs, nodes: &[Mark], loads: &mut [u16], from: usize, to: usi
     requires trail { TrailOf (shown arcs) (load_of loads.old) 0 from nodes.now }
     requires target { reached_of nodes.now to ≡ true }
     requires room { (k : ℕ) → load_of loads.old k + by < 65536 }
-    requires slack { All (Slack by (load_of loads.old)) (marked_way (shown arcs) nodes.now from to) }
+    requires slack { AllByRecursion (Slack by (load_of loads.old)) (marked_way (shown arcs) nodes.now from to) }
     ensures { Shifted by (marked_way (shown arcs.entry) nodes.now from to) (load_of loads.old) (load_of loads.new) }
 {
     let mut v = to;

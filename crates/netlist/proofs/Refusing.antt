@@ -4,7 +4,7 @@ use Rattle.std.specs.Option.{ok_or}
 use Rattle.netlist.specs.declared.KindName.{KindName}
 use Rattle.netlist.specs.declared.KindName.TheVariants.{Late, Contact, Early}
 use Rattle.netlist.specs.declared.Wire.{Wire}
-use Rattle.std.specs.List.{AllByRecursion as All}
+use Rattle.std.specs.List.{AllByRecursion}
 use Rattle.std.proofs.lemmas.List.{append_assoc, length-map, map_push}
 use Rattle.netlist.specs.Texts.{Below, PlaceInRange, place_text}
 use Rattle.netlist.specs.Forms.{lead_form}
@@ -42,7 +42,7 @@ place_more k n items p ls rest more line e f g =
     ∙ ap (head_lines k n) (sym (append_assoc (map (place_text k) items) (place_text k p ∷ []) more) ∙ ap (λ xs. xs ++ more) (sym (map_push (place_text k) items p)))
 
 -- the next line is no place
-pub place_fails : (k : KindName) (n : ℕ) (items : List (Option Wire)) (ls rest more : List (List ℕ)) (line : List ℕ) (number : ℕ) → ls ≡ head_lines k n (map (place_text k) items ++ rest) → rest ≡ line ∷ more → Below 32 n → All (PlaceInRange k) items → number ≡ length items + 3 → ((p : Option Wire) → PlaceInRange k p → line ≡ place_text k p → ⊥) → Fails ls number (lead_form k)
+pub place_fails : (k : KindName) (n : ℕ) (items : List (Option Wire)) (ls rest more : List (List ℕ)) (line : List ℕ) (number : ℕ) → ls ≡ head_lines k n (map (place_text k) items ++ rest) → rest ≡ line ∷ more → Below 32 n → AllByRecursion (PlaceInRange k) items → number ≡ length items + 3 → ((p : Option Wire) → PlaceInRange k p → line ≡ place_text k p → ⊥) → Fails ls number (lead_form k)
 place_fails k n items ls rest more line number e f l s count bad =
     record {
       before = head_lines k n (map (place_text k) items);

@@ -1,6 +1,6 @@
 -- A text is of one netlist at most, and one that is of a netlist is refused at no line.
 use Rattle.std.proofs.Common.{◌≡◌, ℕ, List, [], ◌∷◌, ◌++◌, map, length, get_or, Some, None, Ok, Err, vec_items, decimal, Option, Result, sym, refl, ap, ◌∙◌, subst, arith, MatchResult}
-use Rattle.std.specs.List.{AllByRecursion as All}
+use Rattle.std.specs.List.{AllByRecursion}
 use Rattle.std.proofs.lemmas.Fmt.{decimal_injective, decimal_nonempty}
 use Rattle.std.proofs.lemmas.List.{length-append}
 use Rattle.netlist.specs.declared.KindName.{KindName}
@@ -63,7 +63,7 @@ one_place k None (Some w) s t e = absurd (no_dash k w t e)
 one_place k (Some v) None s t e = absurd (no_dash k v s (sym e))
 one_place k (Some v) (Some w) s t e = ap Some (one_wire k v w s t e)
 
-one_list : (k : KindName) (ps qs : List (Option Wire)) → All (PlaceInRange k) ps → All (PlaceInRange k) qs → map (place_text k) ps ≡ map (place_text k) qs → ps ≡ qs
+one_list : (k : KindName) (ps qs : List (Option Wire)) → AllByRecursion (PlaceInRange k) ps → AllByRecursion (PlaceInRange k) qs → map (place_text k) ps ≡ map (place_text k) qs → ps ≡ qs
 one_list k [] [] s t e = refl
 one_list k [] (q ∷ qs) s t e = absurd (omega (arith, ap length e))
 one_list k (p ∷ ps) [] s t e = absurd (omega (arith, ap length e))
@@ -101,11 +101,11 @@ one_netlist ls m n s t =
     record {
       kind = k;
       nodes = one_number m.nodes n.nodes s.nodes t.nodes numbers;
-      places = one_list n.kind (vec_items m.places) (vec_items n.places) (subst (λ x. All (PlaceInRange x) (vec_items m.places)) k s.places) t.places (subst (λ x. map (place_text x) (vec_items m.places) ≡ map (place_text n.kind) (vec_items n.places)) k rest);
+      places = one_list n.kind (vec_items m.places) (vec_items n.places) (subst (λ x. AllByRecursion (PlaceInRange x) (vec_items m.places)) k s.places) t.places (subst (λ x. map (place_text x) (vec_items m.places) ≡ map (place_text n.kind) (vec_items n.places)) k rest);
     }
 
 -- what stands behind the first of a netlist's places are places too
-further : (k : KindName) (ps qs : List (Option Wire)) (after : List (List ℕ)) → All (PlaceInRange k) qs → map (place_text k) ps ++ after ≡ map (place_text k) qs → (rs : List (Option Wire)) × (after ≡ map (place_text k) rs) × All (PlaceInRange k) rs
+further : (k : KindName) (ps qs : List (Option Wire)) (after : List (List ℕ)) → AllByRecursion (PlaceInRange k) qs → map (place_text k) ps ++ after ≡ map (place_text k) qs → (rs : List (Option Wire)) × (after ≡ map (place_text k) rs) × AllByRecursion (PlaceInRange k) rs
 further k [] qs after s e = (qs, e, s)
 further k (p ∷ ps) [] after s e = absurd (omega (arith, ap length e))
 further k (p ∷ ps) (q ∷ qs) after s e =
@@ -113,7 +113,7 @@ further k (p ∷ ps) (q ∷ qs) after s e =
     further k ps qs after s.1 back
 
 -- places are as expected, and need not be there
-fine : (k : KindName) (rs : List (Option Wire)) → All (PlaceInRange k) rs → Wrong (lead_form k) (map (place_text k) rs) → ⊥
+fine : (k : KindName) (rs : List (Option Wire)) → AllByRecursion (PlaceInRange k) rs → Wrong (lead_form k) (map (place_text k) rs) → ⊥
 fine Late [] s w = w
 fine Contact [] s w = w
 fine Early [] s w = w
@@ -132,7 +132,7 @@ never before after e n (places k m ps l s) w h =
     let kinds : kind_text k ≡ kind_text n.kind = cc in
     let rest : map (place_text k) ps ++ after ≡ map (place_text n.kind) (vec_items n.places) = cc in
     let same = sym (one_kind k n.kind kinds) in
-    let more = further k ps (vec_items n.places) after (subst (λ y. All (PlaceInRange y) (vec_items n.places)) same h.places) (subst (λ y. map (place_text k) ps ++ after ≡ map (place_text y) (vec_items n.places)) same rest) in
+    let more = further k ps (vec_items n.places) after (subst (λ y. AllByRecursion (PlaceInRange y) (vec_items n.places)) same h.places) (subst (λ y. map (place_text k) ps ++ after ≡ map (place_text y) (vec_items n.places)) same rest) in
     fine k more.0 more.2 (subst (Wrong (lead_form k)) {y = map (place_text k) more.0} more.1 w)
 
 pub outcome : (ls : List (List ℕ)) (r : Result Netlist ReadError) → MatchResult r (Written ls) (NotRead ls) → Outcome ls r

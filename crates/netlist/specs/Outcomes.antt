@@ -1,6 +1,6 @@
 -- What it is that a text is a netlist's, and that it fails at a line.
 use Rattle.std.specs.Prelude.{◌≡◌, ℕ, ◌+◌, List, [], ◌∷◌, ◌++◌, map, length, Ok, Err, vec_items, decimal, Option, Result, MatchResult}
-use Rattle.std.specs.List.{AllByRecursion as All}
+use Rattle.std.specs.List.{AllByRecursion}
 use Rattle.netlist.specs.declared.KindName.{KindName}
 use Rattle.netlist.specs.declared.KindName.TheVariants.{Late, Contact}
 use Rattle.netlist.specs.declared.Wire.{Wire}
@@ -20,13 +20,13 @@ head_lines k n more = kind_text k ∷ (decimal n ∷ more)
 pub record Written (lines : List (List ℕ)) (n : Netlist) : Type 0 where
   pub whole : lines ≡ head_lines n.kind n.nodes (map (place_text n.kind) (vec_items n.places))
   pub nodes : Below 32 n.nodes
-  pub places : All (PlaceInRange n.kind) (vec_items n.places)
+  pub places : AllByRecursion (PlaceInRange n.kind) (vec_items n.places)
 
 -- a good start of a netlist, and what has to follow it
 pub data Due : List (List ℕ) → Expected → Type 0 where
   none : Due [] Kind
   kind : (k : KindName) → Due (kind_text k ∷ []) Nodes
-  places : (k : KindName) (n : ℕ) (ps : List (Option Wire)) → Below 32 n → All (PlaceInRange k) ps → Due (head_lines k n (map (place_text k) ps)) (lead_form k)
+  places : (k : KindName) (n : ℕ) (ps : List (Option Wire)) → Below 32 n → AllByRecursion (PlaceInRange k) ps → Due (head_lines k n (map (place_text k) ps)) (lead_form k)
 
 -- the line is as expected
 abbrev pub Meets : Expected → List ℕ → Type 0
