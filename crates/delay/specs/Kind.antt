@@ -25,7 +25,7 @@ most_leads = 4095
 abbrev pub Within : {D : Type 0} → Kind D → D → Type 0
 Within K x = SumOf K most_leads x
 
--- x and y are sums of lead delays, of no more than most-leads in all
+-- x and y are sums of lead delays, of no more than most_leads in all
 pub record Together {D : Type 0} (K : Kind D) (x y : D) : Type 0 where
   pub left : ℕ
   pub right : ℕ
@@ -33,7 +33,7 @@ pub record Together {D : Type 0} (K : Kind D) (x y : D) : Type 0 where
   pub right_sum : SumOf K right y
   pub few : left + right ≤ most_leads
 
--- what every kind shows of sums of at most most-leads lawful lead delays
+-- what every kind shows of sums of at most most_leads lawful lead delays
 pub record Laws {D : Type 0} (K : Kind D) : Type 0 where
   -- zero adds nothing; the sum commutes and associates
   pub zero_adds_nothing : {x : D} → Within K x → K.plus K.zero x ≡ x

@@ -54,6 +54,7 @@ fn read_contacts(text: &[u8]) -> Option<u8>
 }
 
 /// The kind that a line names.
+#[tactic(auto, using(crate::proofs::Unique::exact_kind, std::proofs::lemmas::Slice::Eq::text_from_reads))]
 pub fn read_kind(line: &[u8]) -> Option<KindName>
     ensures { Exactly Any kind_text line.now result }
 {

@@ -8,5 +8,5 @@ use Rattle.probe.specs.declared.ProbeError.{ProbeError}
 
 -- list and witness of N, or both rows as before
 abbrev pub Drawn : {D : Type 0} → Kind D → Net D → List ℕ → List ℕ → List ℕ → List ℕ → Result Counts ProbeError → Type 0
-Drawn K N word_row witness_row words-after witness-after (Ok c) = Written K N word_row witness_row words-after witness-after c
-Drawn K N word_row witness_row words-after witness-after (Err e) = (words-after ≡ word_row) × (witness-after ≡ witness_row)
+Drawn K N word_row witness_row words_after witness_after (Ok c) = Written K N word_row witness_row words_after witness_after c
+Drawn K N word_row witness_row words_after witness_after (Err e) = (words_after ≡ word_row) × (witness_after ≡ witness_row)

@@ -9,7 +9,7 @@ use Rattle.probe.specs.Answers.{answer_in}
 use Rattle.probe.specs.Drawn.{Drawn}
 use Rattle.probe.specs.Places.{net_of}
 
-pub record Probed {D : Type 0} (K : Kind D) (nodes : ℕ) (places : List Place) (word_row witness_row words-after witness-after : List ℕ) (r : Answer) : Type 0 where
+pub record Probed {D : Type 0} (K : Kind D) (nodes : ℕ) (places : List Place) (word_row witness_row words_after witness_after : List ℕ) (r : Answer) : Type 0 where
   pub result : Result Counts ProbeError
   pub told : r ≡ answer_in result
-  pub drawn : Drawn K (net_of K nodes places) word_row witness_row words-after witness-after result
+  pub drawn : Drawn K (net_of K nodes places) word_row witness_row words_after witness_after result
