@@ -44,7 +44,7 @@ pub trait Delay: Copy {
 }
 
 /// The picosecond kind: picoseconds alone.
-#[derive(Clone, Copy)]
+#[derive(Clone, Copy, PartialEq, Eq, Debug)]
 pub struct Picoseconds(pub u32);
 
 impl Delay for Picoseconds {
@@ -77,8 +77,9 @@ impl Delay for Picoseconds {
     }
 }
 
-/// The contact kind: picoseconds, and among equal picoseconds the number of contacts.
-#[derive(Clone, Copy)]
+/// The contact kind: picoseconds, and among equal picoseconds the number of contacts. Delays compare
+/// by their fields in this order.
+#[derive(Clone, Copy, PartialEq, Eq, PartialOrd, Ord, Debug)]
 pub struct Contact {
     pub picoseconds: u32,
     pub contacts: u32,
@@ -107,8 +108,7 @@ impl Delay for Contact {
     }
 
     fn below(self, other: Self) -> bool {
-        self.picoseconds < other.picoseconds
-            || self.picoseconds == other.picoseconds && self.contacts < other.contacts
+        self < other
     }
 
     fn lawful(self) -> bool {
@@ -124,7 +124,7 @@ impl Delay for Contact {
 }
 
 /// The early kind over any kind: the order turned round, so that the longest path is the earliest one.
-#[derive(Clone, Copy)]
+#[derive(Clone, Copy, PartialEq, Eq, Debug)]
 pub struct Early<K>(pub K);
 
 impl<K: Delay> Delay for Early<K> {
@@ -158,8 +158,7 @@ impl fmt::Display for Picoseconds {
     ghost output = { λ d. Some (picoseconds_text d) };
 
     fn fmt<W: fmt::Write>(&self, f: &mut fmt::Formatter<W>) -> fmt::Result {
-        let picoseconds = self.0;
-        write!(f, "{picoseconds}")
+        write!(f, "{}", self.0)
     }
 }
 
@@ -168,9 +167,7 @@ impl fmt::Display for Contact {
     ghost output = { λ d. Some (contact_text d) };
 
     fn fmt<W: fmt::Write>(&self, f: &mut fmt::Formatter<W>) -> fmt::Result {
-        let picoseconds = self.picoseconds;
-        let contacts = self.contacts;
-        write!(f, "{picoseconds}/{contacts}")
+        write!(f, "{}/{}", self.picoseconds, self.contacts)
     }
 }
 

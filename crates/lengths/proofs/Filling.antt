@@ -1,5 +1,5 @@
 -- Filling a table of lengths node by node: what keeps the rule at a node, and that the rules give To and From.
-use Rattle.std.proofs.Common.{◌≡◌, ℕ, zero, suc, ◌+◌, ◌<◌, ◌≢◌, List, length, set, Some, None, sym, refl, ap, ◌∙◌, subst, ⊎_elim, arith, get_or-set_other, get_or-set_same, below_more}
+use Rattle.std.proofs.Common.{◌≡◌, ℕ, zero, suc, ◌+◌, ◌<◌, ◌≢◌, List, length, set, Some, None, Option, unwrap_or, sym, refl, ap, ◌∙◌, subst, ⊎_elim, arith, get_or-set_other, get_or-set_same, below_more}
 use Rattle.std.proofs.lemmas.Bool.{cases_Bool, both_ways}
 use Rattle.delay.specs.Kind.{Kind, SumOf, none, both, Within, Laws, Le}
 use Rattle.wiring.specs.declared.Lead.{Lead}
@@ -45,19 +45,24 @@ module _ {D : Type 0} (K : Kind D) (N : Net D) (S : Sound K N) where
   offers_within to v R k l h e = let b = head_inside S k l h in
       both (omega arith) (sums_below to v R v l.tail (omega arith) (omega arith)) (lead_sum S k l h)
 
-  pub length_if_none : (to : ℕ → D) (v : ℕ) → BestBelow K N (λ l. l.head ≡ v) (offer K to) N.places None → LengthAt K N to v K.zero
+  length_if_none : (to : ℕ → D) (v : ℕ) → BestBelow K N (λ l. l.head ≡ v) (offer K to) N.places None → LengthAt K N to v K.zero
   length_if_none to v h = record {
     start = λ e. refl;
     bounds = λ k l a e. absurd (h k (below_places N k l a) l a e);
     met = λ e. let i = lead_in N v e in absurd (h i.place (below_places N i.place i.lead i.holds) i.lead i.holds i.ends);
   }
 
-  pub length_if_some : (to : ℕ → D) (v : ℕ) (b : D) → BestBelow K N (λ l. l.head ≡ v) (offer K to) N.places (Some b) → LengthAt K N to v b
+  length_if_some : (to : ℕ → D) (v : ℕ) (b : D) → BestBelow K N (λ l. l.head ≡ v) (offer K to) N.places (Some b) → LengthAt K N to v b
   length_if_some to v b h = let w = h.0 in record {
     start = λ e. absurd (both_ways (has_lead_in N v) e (has_in N w.0 w.1 v w.3 w.4));
     bounds = λ k l a e. h.1 k (below_places N k l a) l a e;
     met = λ e. (w.0, w.1, w.3, w.4, w.5);
   }
+
+  -- the longest that the leads into v offer is the length at v, and zero where there is no lead
+  pub length_of_best : (to : ℕ → D) (v : ℕ) (best : Option D) → BestBelow K N (λ l. l.head ≡ v) (offer K to) N.places best → LengthAt K N to v (unwrap_or best K.zero)
+  length_of_best to v None h = length_if_none to v h
+  length_of_best to v (Some b) h = length_if_some to v b h
 
   -- one entry more
   pub fill_step : (xs : List D) (v : ℕ) (x : D) → v < length xs → Each K N (entry K xs) v → LengthAt K N (entry K xs) v x → Each K N (entry K (set xs v x)) (v + 1)

@@ -1,7 +1,6 @@
 pub mod Checks
 pub mod Best
 pub mod Filling
-pub mod Rows
 pub mod Asking
 pub mod Pinned
 pub mod Worked

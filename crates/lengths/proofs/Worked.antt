@@ -1,5 +1,5 @@
 -- The lengths that are worked out node by node are To and From: so every sound wiring has its lengths.
-use Rattle.std.proofs.Common.{◌≡◌, ℕ, zero, suc, ◌+◌, ◌<◌, Bool, true, false, cond, eqb, List, [], ◌∷◌, length, Some, None, Option, sym, refl, ap, ◌∙◌, subst, arith, length-append, below_more}
+use Rattle.std.proofs.Common.{◌≡◌, ℕ, zero, suc, ◌+◌, ◌<◌, Bool, true, false, cond, eqb, List, [], ◌∷◌, length, Some, None, Option, unwrap_or, sym, refl, ap, ◌∙◌, subst, arith, length-append, below_more}
 use Rattle.std.proofs.lemmas.List.{get_or_append_left, get_or_push}
 use Rattle.std.proofs.lemmas.Bool.{eqb-true, eqb-false}
 use Rattle.delay.specs.Kind.{Kind, Laws}
@@ -11,9 +11,9 @@ use Rattle.wiring.proofs.Cover.{Tables}
 use Rattle.wiring.proofs.Turning.{turned_sound, from_turned}
 use Rattle.lengths.specs.Tables.{entry}
 use Rattle.lengths.specs.Steps.{longer_of, offer, LengthAt}
-use Rattle.lengths.specs.Worked.{longer_by, longest_into, or_zero, with_next, lengths_to, worked_to, worked_from}
+use Rattle.lengths.specs.Worked.{longer_by, longest_into, with_next, lengths_to, worked_to, worked_from}
 use Rattle.lengths.proofs.Best.{BestBelow, best_skip, best_more}
-use Rattle.lengths.proofs.Filling.{Each, offers_within, length_kept, length_if_none, length_if_some, holds_to}
+use Rattle.lengths.proofs.Filling.{Each, offers_within, length_kept, length_of_best, holds_to}
 
 module _ {D : Type 0} {K : Kind D} (L : Laws K) {N : Net D} (S : Sound K N) where
   -- one place more
@@ -36,13 +36,9 @@ module _ {D : Type 0} {K : Kind D} (L : Laws K) {N : Net D} (S : Sound K N) wher
       (more_below to v R p (longest_into K N to v p) (longest_below to v R p) (N.at p) refl)
 
   -- the rule at v is kept
-  next_length : (to : ℕ → D) (v : ℕ) → (best : Option D) → BestBelow K N (λ l. l.head ≡ v) (offer K to) N.places best → LengthAt K N to v (or_zero K best)
-  next_length to v None B = length_if_none K N S to v B
-  next_length to v (Some x) B = length_if_some K N S to v x B
-
   with_next_kept : (xs : List D) (v : ℕ) → length xs ≡ v → Each K N (entry K xs) v → Each K N (entry K (with_next K N xs v)) (v + 1)
   with_next_kept xs v len R =
-      let x : D = or_zero K (longest_into K N (entry K xs) v N.places) in
+      let x : D = unwrap_or (longest_into K N (entry K xs) v N.places) K.zero in
       let next : ℕ → D = entry K (with_next K N xs v) in
       let same : (u : ℕ) → u < v → entry K xs u ≡ next u = λ u h. sym (get_or_append_left xs (x ∷ []) K.zero u (omega arith)) in
       let here : next v ≡ x = get_or_push xs x K.zero v len in
@@ -50,13 +46,13 @@ module _ {D : Type 0} {K : Kind D} (L : Laws K) {N : Net D} (S : Sound K N) wher
       (λ u h. subst (LengthAt K N next u) (same u h) (length_kept K N S (entry K xs) next u (entry K xs u) (λ t j. same t (omega arith)) (R u h)))
       (subst (LengthAt K N next v) (sym here)
       (length_kept K N S (entry K xs) next v x same
-      (next_length (entry K xs) v (longest_into K N (entry K xs) v N.places) (longest_below (entry K xs) v R N.places))))
+      (length_of_best K N S (entry K xs) v (longest_into K N (entry K xs) v N.places) (longest_below (entry K xs) v R N.places))))
 
   lengths_count : (n : ℕ) → length (lengths_to K N n) ≡ n
   lengths_count zero = refl
   lengths_count (suc n) =
       let xs = lengths_to K N n in
-      omega (arith, length-append xs (or_zero K (longest_into K N (entry K xs) n N.places) ∷ []), lengths_count n)
+      omega (arith, length-append xs (unwrap_or (longest_into K N (entry K xs) n N.places) K.zero ∷ []), lengths_count n)
 
   lengths_kept : (n : ℕ) → Each K N (entry K (lengths_to K N n)) n
   lengths_kept zero = λ u i. absurd (omega arith)

@@ -1,5 +1,5 @@
 -- What a length table holds.
-use Rattle.std.specs.Prelude.{◌≡◌, ℕ, ◌<◌, true, List, slice_index_or}
+use Rattle.std.specs.Prelude.{◌≡◌, ℕ, ◌<◌, true, List, length, drop, slice_index_or}
 use Rattle.delay.specs.Kind.{Kind}
 use Rattle.wiring.specs.Net.{Net, is_input, is_output}
 use Rattle.wiring.specs.Lengths.{To, From}
@@ -24,3 +24,9 @@ pub record HoldsFrom {D : Type 0} (K : Kind D) (N : Net D) (xs : List D) : Type 
 -- a length table after it was only asked: the same entries, on the same lent slice
 abbrev pub Untouched : {D : Type 0} → Lengths D → Lengths D → Type 0
 Untouched a b = (b.table.now ≡ a.table.now) × (b.table.ghost_name ≡ a.table.ghost_name)
+
+-- a length table before and after its first n entries were written: past them b is as a was, on the same lent slice
+pub record Refilled {D : Type 0} (n : ℕ) (a b : Lengths D) : Type 0 where
+  pub rest : drop n b.table.now ≡ drop n a.table.now
+  pub long : length b.table.now ≡ length a.table.now
+  pub lender : b.table.ghost_name ≡ a.table.ghost_name

@@ -1,5 +1,5 @@
 -- The lengths to all nodes of a wiring, worked out node by node: for tests that compute. What To and From are is said over runs.
-use Rattle.std.specs.Prelude.{ℕ, zero, suc, cond, List, [], ◌∷◌, ◌++◌, Some, None, Option, ◌==◌}
+use Rattle.std.specs.Prelude.{ℕ, zero, suc, cond, List, [], ◌∷◌, ◌++◌, Some, None, Option, unwrap_or, ◌==◌}
 use Rattle.delay.specs.Kind.{Kind}
 use Rattle.wiring.specs.declared.Lead.{Lead}
 use Rattle.wiring.specs.Net.{Net}
@@ -17,13 +17,9 @@ abbrev pub longest_into : {D : Type 0} → Kind D → Net D → (ℕ → D) → 
 longest_into K N to v zero = None
 longest_into K N to v (suc p) = longer_by K to v (N.at p) (longest_into K N to v p)
 
-abbrev pub or_zero : {D : Type 0} → Kind D → Option D → D
-or_zero K None = K.zero
-or_zero K (Some x) = x
-
 -- the lengths xs of the first nodes, with that of the node v after them
 abbrev pub with_next : {D : Type 0} → Kind D → Net D → List D → ℕ → List D
-with_next K N xs v = xs ++ (or_zero K (longest_into K N (entry K xs) v N.places) ∷ [])
+with_next K N xs v = xs ++ (unwrap_or (longest_into K N (entry K xs) v N.places) K.zero ∷ [])
 
 -- the lengths to the first n nodes
 abbrev pub lengths_to : {D : Type 0} → Kind D → Net D → ℕ → List D

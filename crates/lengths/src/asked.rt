@@ -8,7 +8,8 @@ ghost use Rattle.lengths.specs.Tables.{entry, Untouched};
 ghost use Rattle.lengths.specs.Asked.{Filled, of_lead, TypeOf, ThroughOf, LongestOf};
 
 use crate::check::check;
-use crate::table::{FillError, Lengths, longer};
+use crate::measure::longer;
+use crate::table::{FillError, Lengths};
 use delay::Delay;
 use wiring::Wiring;
 

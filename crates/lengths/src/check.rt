@@ -13,7 +13,7 @@ use wiring::{Lead, Wiring};
 pub const MOST: usize = 4096;
 
 /// The limit that a wiring breaks.
-#[derive(Clone, Copy)]
+#[derive(Clone, Copy, PartialEq, Eq, Debug)]
 pub enum Fault {
     /// more than 4,096 nodes or places
     Size,
@@ -23,12 +23,12 @@ pub enum Fault {
     Delay(usize),
 }
 
-impl Fault {
-    /// The refusal under which this fault is reported.
-    pub fn refusal(self) -> Refusal
-        ensures { result ≡ refusal_of self }
-    {
-        match self {
+/// The refusal under which the fault is reported.
+impl From<Fault> for Refusal {
+    ghost from_gives = { λ f r. r ≡ refusal_of f };
+
+    fn from(fault: Fault) -> Self {
+        match fault {
             Fault::Size => Refusal::Size,
             Fault::Ends(_) => Refusal::Ends,
             Fault::Delay(_) => Refusal::Delay,

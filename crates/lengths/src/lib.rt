@@ -3,5 +3,6 @@
 
 pub mod asked;
 pub mod check;
+pub mod measure;
 pub mod table;
 pub mod wording;

@@ -3,16 +3,17 @@ ghost use Rattle.std.specs.Prelude.{◌≡◌, ℕ, ◌-◌, ◌<◌, ◌≤◌,
 ghost use Rattle.lengths.specs.declared.table.FillError.TheVariants.{Unsound};
 ghost use Rattle.wiring.specs.Net.{Sound};
 ghost use Rattle.lengths.specs.Check.{NotFilled, refusal_for};
-ghost use Rattle.lengths.specs.Tables.{entry, HoldsTo, HoldsFrom, Untouched};
-ghost use Rattle.lengths.specs.Steps.{longer_of, LengthAt};
+ghost use Rattle.lengths.specs.Tables.{entry, HoldsTo, HoldsFrom, Refilled, Untouched};
+ghost use Rattle.wiring.specs.Views.{turned_net};
 
 use crate::check::{Fault, check};
+use crate::measure::{Measure, Scan, fill_row, mirror_row};
 use delay::Delay;
 use wiring::refusals::Refusal;
-use wiring::{Turned, Wiring, turn_round};
+use wiring::{Wiring, turn_round};
 
 /// Why a length table is not filled.
-#[derive(Clone, Copy)]
+#[derive(Clone, Copy, PartialEq, Eq, Debug)]
 pub enum FillError {
     /// the wiring breaks a limit
     Unsound(Fault),
@@ -20,13 +21,13 @@ pub enum FillError {
     Short,
 }
 
-impl FillError {
-    /// The refusal under which this error is reported.
-    pub fn refusal(self) -> Refusal
-        ensures { result ≡ refusal_for self }
-    {
-        match self {
-            FillError::Unsound(fault) => fault.refusal(),
+/// The refusal under which the error is reported.
+impl From<FillError> for Refusal {
+    ghost from_gives = { λ e r. r ≡ refusal_for e };
+
+    fn from(error: FillError) -> Self {
+        match error {
+            FillError::Unsound(fault) => fault.into(),
             FillError::Short => Refusal::Room,
         }
     }
@@ -45,62 +46,7 @@ fn entry_of<D: Delay>(table: &mut [D], v: usize) -> D
     ensures read { result ≡ entry D.Delay.kind table.old v }
     ensures kept { table.new ≡ table.old }
 {
-    if v < table.len() { table[v] } else { D::zero() }
-}
-
-/// The longer of two delays, the first where they are level.
-pub fn longer<D: Delay>(best: Option<D>, d: D) -> D
-    ensures { result ≡ longer_of D.Delay.kind best d }
-{
-    match best {
-        Some(b) => if b.below(d) { d } else { b },
-        None => d,
-    }
-}
-
-// The length at v by way of the leads into it and the lengths of the nodes below it.
-fn length_at<D: Delay, W: Wiring<D>>(w: &W, table: &[D], v: usize) -> D
-    requires sound { Sound D.Delay.kind (W.Wiring.net w.now) }
-    requires room { (W.Wiring.net w.now).nodes ≤ length table.now }
-    requires inside { v < (W.Wiring.net w.now).nodes }
-    requires lower { (u : ℕ) → u < v → LengthAt D.Delay.kind (W.Wiring.net w.now) (entry D.Delay.kind table.now) u (entry D.Delay.kind table.now u) }
-    ensures { LengthAt D.Delay.kind (W.Wiring.net w.now) (entry D.Delay.kind table.now) v result }
-{
-    let mut best: Option<D> = None;
-    for place in 0..w.places() {
-        if let Some(l) = w.lead(place) {
-            if l.head == v {
-                best = Some(longer(best, table[l.tail].plus(l.delay)));
-            }
-        }
-    }
-    match best {
-        Some(b) => b,
-        None => D::zero(),
-    }
-}
-
-// Fills the first entries with To, node by node: leads run upwards, so what a node needs is there.
-fn fill_row<D: Delay, W: Wiring<D>>(w: &W, table: &mut [D])
-    requires sound { Sound D.Delay.kind (W.Wiring.net w.now) }
-    requires room { (W.Wiring.net w.now).nodes ≤ length table.old }
-    ensures filled { HoldsTo D.Delay.kind (W.Wiring.net w.now) table.new }
-    ensures rest { drop (W.Wiring.net w.now).nodes table.new ≡ drop (W.Wiring.net w.now).nodes table.old }
-{
-    for v in 0..w.nodes() {
-        let d = length_at(w, table, v);
-        table[v] = d;
-    }
-}
-
-// Turns the first n entries round.
-fn mirror_row<D>(table: &mut [D], n: usize)
-    requires { n ≤ length table.old }
-    ensures turned { (k : ℕ) (d : D) → k < n → slice_index_or table.new k d ≡ slice_index_or table.old (n - 1 - k) d }
-    ensures rest { drop n table.new ≡ drop n table.old }
-{
-    let part = &mut table[0..n];
-    part.reverse();
+    table.get(v).copied().unwrap_or(D::zero())
 }
 
 /// A table of lengths over a lent slice, asked by node number.
@@ -133,15 +79,35 @@ impl<'a, D: Delay> Lengths<'a, D> {
         self.table.len()
     }
 
+    /// Fills the table with To of every node of the wiring that is measured.
+    pub fn fill<M: Measure<D>>(&mut self, measure: &M)
+        requires ready { M.Measure.ready measure.now }
+        requires room { (M.Measure.net measure.now).nodes ≤ length self.old.table.now }
+        ensures filled { HoldsTo D.Delay.kind (M.Measure.net measure.now) self.new.table.now }
+        ensures rest { Refilled (M.Measure.net measure.now).nodes self.old self.new }
+    {
+        fill_row(measure, self.table);
+    }
+
+    /// Reads the table backwards: it held To of the turned wiring, and then holds From.
+    pub fn turn_back<W: Wiring<D>>(&mut self, w: &W)
+        requires sound { Sound D.Delay.kind (W.Wiring.net w.now) }
+        requires room { (W.Wiring.net w.now).nodes ≤ length self.old.table.now }
+        requires turned { HoldsTo D.Delay.kind (turned_net (W.Wiring.net w.now)) self.old.table.now }
+        ensures filled { HoldsFrom D.Delay.kind (W.Wiring.net w.now) self.new.table.now }
+        ensures rest { Refilled (W.Wiring.net w.now).nodes self.old self.new }
+    {
+        mirror_row(self.table, w.nodes());
+    }
+
     // Fills the table with To, where the wiring is sound and the table long enough.
     pub(crate) fn put_to<W: Wiring<D>>(&mut self, w: &W)
         requires sound { Sound D.Delay.kind (W.Wiring.net w.now) }
         requires room { (W.Wiring.net w.now).nodes ≤ length self.old.table.now }
         ensures filled { HoldsTo D.Delay.kind (W.Wiring.net w.now) self.new.table.now }
-        ensures rest { drop (W.Wiring.net w.now).nodes self.new.table.now ≡ drop (W.Wiring.net w.now).nodes self.old.table.now }
-        ensures lender { self.new.table.ghost_name ≡ self.old.table.ghost_name }
+        ensures rest { Refilled (W.Wiring.net w.now).nodes self.old self.new }
     {
-        fill_row(w, self.table);
+        self.fill(&Scan { under: w });
     }
 
     // The same with From: To of the turned view, read backwards.
@@ -149,12 +115,11 @@ impl<'a, D: Delay> Lengths<'a, D> {
         requires sound { Sound D.Delay.kind (W.Wiring.net w.now) }
         requires room { (W.Wiring.net w.now).nodes ≤ length self.old.table.now }
         ensures filled { HoldsFrom D.Delay.kind (W.Wiring.net w.now) self.new.table.now }
-        ensures rest { drop (W.Wiring.net w.now).nodes self.new.table.now ≡ drop (W.Wiring.net w.now).nodes self.old.table.now }
-        ensures lender { self.new.table.ghost_name ≡ self.old.table.ghost_name }
+        ensures rest { Refilled (W.Wiring.net w.now).nodes self.old self.new }
     {
         let turned = turn_round(w);
-        fill_row::<D, Turned<W>>(&turned, self.table);
-        mirror_row(self.table, w.nodes());
+        self.fill(&Scan { under: &turned });
+        self.turn_back(w);
     }
 
     /// Fills the table with To of every node of the wiring. Entries past the nodes stay; a wiring

@@ -8,7 +8,7 @@ ghost use Rattle.wiring.specs.Views.{table_net, turned_net, Turning};
 pub mod refusals;
 
 /// A lead from the node `tail` to the node `head`.
-#[derive(Clone, Copy)]
+#[derive(Clone, Copy, PartialEq, Eq, Debug)]
 pub struct Lead<D> {
     pub tail: usize,
     pub head: usize,
@@ -50,10 +50,7 @@ impl<D: Copy> Wiring<D> for Table<'_, D> {
     }
 
     fn lead(&self, place: usize) -> Option<Lead<D>> {
-        match self.leads.get(place) {
-            Some(entry) => *entry,
-            None => None,
-        }
+        *self.leads.get(place)?
     }
 }
 

@@ -3,28 +3,28 @@ ghost use Rattle.std.specs.Prelude.{◌≡◌};
 ghost use Rattle.wiring.specs.Refusals.{number_of};
 
 /// The refusals, each with a number of its own.
-#[derive(Clone, Copy)]
+#[derive(Clone, Copy, PartialEq, Eq, Debug)]
 pub enum Refusal {
     /// a file under 11 bytes, or a length field unlike the byte count or unlike what the header says
-    FileLength,
+    FileLength = 1,
     /// a version byte that is not 1
-    Version,
+    Version = 2,
     /// more nodes or places than a sheet or a wiring may have
-    Size,
+    Size = 3,
     /// a sign that is neither 0 nor 1
-    Sign,
+    Sign = 4,
     /// a tail that is not below its head, or a head that is not below the node count
-    Ends,
+    Ends = 5,
     /// a delay over the limit, or not lawful for its kind
-    Delay,
+    Delay = 6,
     /// a lead laid at a taken place
-    Taken,
+    Taken = 7,
     /// a retiming or lifting at a vacant place
-    Vacant,
+    Vacant = 8,
     /// a place that is not below the place count
-    Place,
+    Place = 9,
     /// a table or a row that is too short
-    Room,
+    Room = 10,
 }
 
 impl Refusal {
@@ -32,17 +32,6 @@ impl Refusal {
     pub fn number(self) -> u8
         ensures { result ≡ number_of self }
     {
-        match self {
-            Refusal::FileLength => 1,
-            Refusal::Version => 2,
-            Refusal::Size => 3,
-            Refusal::Sign => 4,
-            Refusal::Ends => 5,
-            Refusal::Delay => 6,
-            Refusal::Taken => 7,
-            Refusal::Vacant => 8,
-            Refusal::Place => 9,
-            Refusal::Room => 10,
-        }
+        self as u8
     }
 }

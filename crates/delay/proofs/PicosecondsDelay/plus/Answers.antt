@@ -2,5 +2,5 @@ use Rattle.std.proofs.Common.{◌∙◌, rules}
 use Rattle.delay.specs.DeliveredLaws.{picosecond_sums_exact}
 use Rattle.delay.proofs.PicosecondsDelay.plus.Goals as goal
 
-pub returns : goal.returns
-returns c = record { meant = search rules; exact = λ t. c.saturating_add.ensures ∙ picosecond_sums_exact t }
+pub returns-clause-exact : goal.returns-clause-exact
+returns-clause-exact c = λ t. c.saturating_add.ensures ∙ picosecond_sums_exact t

@@ -6,8 +6,8 @@ use Rattle.lengths.specs.Asked.{of_lead, TypeOf}
 use Rattle.lengths.proofs.Asking.{type_told}
 use Rattle.lengths.proofs.asked.classify.Goals as goal
 
-pub returns : goal.returns
-returns g c =
+pub returns-clause-types : goal.returns-clause-types
+returns-clause-types g c =
     let K = g.D.Delay.kind in let N = g.W.Wiring.net c.args.w.now in
     let to = c.args.to.now.table.now in let from = c.args.from.now.table.now in
     let l = c.in_ok-lead.lead in
@@ -17,9 +17,4 @@ returns g c =
     let pair : ◌≡◌ {A = Bool × Bool} (c.level-drains.result, c.level-fed.result) (type_by K (entry K to) (entry K from) l) = λ i. (drains i, fed i) in
     let is : ◌≡◌ {A = Option (Bool × Bool)} (Some (c.level-drains.result, c.level-fed.result)) (of_lead (type_by K (entry K to) (entry K from)) (N.at c.args.place)) =
     ap {B = Option (Bool × Bool)} (λ m. Some m) pair ∙ sym (ap (of_lead (type_by K (entry K to) (entry K from))) at) in
-    record {
-      marks = is;
-      types = λ F. subst (TypeOf K N c.args.place) (sym is) (type_told K g.met.D.Delay.laws N to from F c.args.place (N.at c.args.place) refl);
-      to_kept = (c.at-4.ensures.kept.0 ∙ c.at-3.ensures.kept.0, c.at-4.ensures.kept.1 ∙ c.at-3.ensures.kept.1);
-      from_kept = (c.at-2.ensures.kept.0 ∙ c.at.ensures.kept.0, c.at-2.ensures.kept.1 ∙ c.at.ensures.kept.1);
-    }
+    λ F. subst (TypeOf K N c.args.place) (sym is) (type_told K g.met.D.Delay.laws N to from F c.args.place (N.at c.args.place) refl)

@@ -40,15 +40,11 @@ loop-place-preserved g c =
       (c.longest_through.ensures.from_kept.0 ∙ inv.2.0, c.longest_through.ensures.from_kept.1 ∙ inv.2.1),
     )
 
-pub returns : goal.returns
-returns g c =
+pub returns-clause-longest : goal.returns-clause-longest
+returns-clause-longest g c =
     let K = g.D.Delay.kind in let L = g.met.D.Delay.laws in let N = g.W.Wiring.net c.args.w.now in
     let to = c.args.to.now.table.now in let from = c.args.from.now.table.now in
     let inv = c.loop-place.invariant in
     let end : c.loop-place.place ≡ N.places = omega arith in
-    record {
-      longest = λ F. longest_told K L N to from F c.loop-place.best
-          (subst (λ p. BestBelow K N (λ l. Unit {0}) (through_by K (entry K to) (entry K from)) p c.loop-place.best) end (inv.0 F));
-      to_kept = inv.1;
-      from_kept = inv.2;
-    }
+    λ F. longest_told K L N to from F c.loop-place.best
+          (subst (λ p. BestBelow K N (λ l. Unit {0}) (through_by K (entry K to) (entry K from)) p c.loop-place.best) end (inv.0 F))

@@ -5,8 +5,8 @@ use Rattle.lengths.specs.Asked.{of_lead, ThroughOf}
 use Rattle.lengths.proofs.Asking.{through_told}
 use Rattle.lengths.proofs.asked.longest_through.Goals as goal
 
-pub returns : goal.returns
-returns g c =
+pub returns-clause-longest : goal.returns-clause-longest
+returns-clause-longest g c =
     let K = g.D.Delay.kind in let N = g.W.Wiring.net c.args.w.now in
     let to = c.args.to.now.table.now in let from = c.args.from.now.table.now in
     let l = c.in_ok-lead.lead in
@@ -14,9 +14,4 @@ returns g c =
     let sum : c.plus.result ≡ through_by K (entry K to) (entry K from) l = cc in
     let is : ◌≡◌ {A = Option g.row.D.Denot} (Some c.plus.result) (of_lead (through_by K (entry K to) (entry K from)) (N.at c.args.place)) =
     ap {B = Option g.row.D.Denot} (λ x. Some x) sum ∙ sym (ap (of_lead (through_by K (entry K to) (entry K from))) at) in
-    record {
-      delay = is;
-      longest = λ F. subst (ThroughOf K N c.args.place) (sym is) (through_told K g.met.D.Delay.laws N to from F c.args.place (N.at c.args.place) refl);
-      to_kept = c.at-2.ensures.kept;
-      from_kept = c.at.ensures.kept;
-    }
+    λ F. subst (ThroughOf K N c.args.place) (sym is) (through_told K g.met.D.Delay.laws N to from F c.args.place (N.at c.args.place) refl)

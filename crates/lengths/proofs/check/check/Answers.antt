@@ -19,11 +19,3 @@ returns-in-Some g c =
     let F : Finds K N c.in-Some.fault = finds_first K N few c.loop-place.place c.loop-place.invariant c.in-Some.fault
     (b.0, sym c.lead.ensures ∙ b.1, subst (λ n. Breaks K n c.loop-place.place b.0 c.in-Some.fault) same b.2) in
     record { found = F; fault = λ f h. ap (λ x. Err x) (finds_one K N c.in-Some.fault f F h); none = λ S. absurd (sound_finds_none K N S c.in-Some.fault F) }
-
-pub returns : goal.returns
-returns g c =
-    let K = g.D.Delay.kind in let N = g.W.Wiring.net c.args.w.now in
-    let few : Sized N = (omega arith, omega arith) in
-    let end : c.loop-place.place ≡ N.places = omega arith in
-    let S = sound_if_all K N few (subst (KeepsBelow K N) end c.loop-place.invariant) in
-    record { found = S; fault = λ f h. absurd (sound_finds_none K N S f h); none = λ _. refl }
