@@ -18,8 +18,10 @@ use Rattle.lengths.proofs.Pinned.{finds_one, sound_finds_none, sound_or_finds}
 use Rattle.circuit.specs.Spread.{spread}
 use Rattle.circuit.proofs.Claims.{spreads_are_sound}
 use Rattle.choice.proofs.Sheets.{lists_carry_over, histories_agree}
-use Rattle.choice.specs.declared.Counts.{Counts}
-use Rattle.choice.specs.Choice.{Lent, Choice, TooShort, short_table, Early, by_fault, by_table, to_table, from_table, load_table, mark_table, word_row, witness_row, Enough, over, counts, Refuses, Accepts, Chosen, faulty, too_short, accepted}
+use Rattle.drawing.specs.declared.Counts.{Counts}
+use Rattle.drawing.specs.Room.{to_table, from_table, load_table, mark_table}
+use Rattle.drawing.specs.Rowed.{over, counts, for_words, for_witness}
+use Rattle.choice.specs.Choice.{Lent, Choice, TooShort, short_table, short_row, Early, by_fault, by_table, Enough, Refuses, Accepts, Chosen, faulty, too_short, accepted}
 use Rattle.choice.specs.Claims.{witness_size, Agree, ChoiceExists, ChoicePinned, ChoiceRight, EarlyRefused, ChoiceAccepts, SpreadsWantRoom, EqualSheetsAgree, ChoicesStand}
 
 -- a refusal that leaves the rows
@@ -58,22 +60,22 @@ module _ {D : Type 0} {K : Kind D} {N : Net D} {g : Lent} where
       ⊎_elim (λ s. inr (short_table (from_table s))) (λ b.
       ⊎_elim (λ s. inr (short_table (load_table s))) (λ c.
       ⊎_elim (λ s. inr (short_table (mark_table s))) (λ d.
-      ⊎_elim (λ s. inr (word_row ps X s)) (λ e.
-      ⊎_elim (λ s. inr (witness_row ps X s)) (λ f. inl (record { to_table = a; from_table = b; load_table = c; mark_table = d; word_row = e; witness_row = f }))
+      ⊎_elim (λ s. inr (short_row (for_words ps X s))) (λ e.
+      ⊎_elim (λ s. inr (short_row (for_witness ps X s))) (λ f. inl (record { tables = record { to_table = a; from_table = b; load_table = c; mark_table = d }; word_row = e; witness_row = f }))
       (cases_lt (length g.witness_row) (length ps)))
       (cases_lt (length g.word_row) (length (words ps))))
-      (cases_lt g.mark_table (N.nodes + N.places)))
-      (cases_lt g.load_table N.places))
-      (cases_lt g.from_table N.nodes))
-      (cases_lt g.to_table N.nodes)
+      (cases_lt g.tables.mark_table (N.nodes + N.places)))
+      (cases_lt g.tables.load_table N.places))
+      (cases_lt g.tables.from_table N.nodes))
+      (cases_lt g.tables.to_table N.nodes)
 
   enough_and_short : {ps : List (List ℕ)} → ListOf K N ps → Enough N ps g → TooShort K N g → ⊥
-  enough_and_short X E (short_table (to_table s)) = omega (arith, E.to_table)
-  enough_and_short X E (short_table (from_table s)) = omega (arith, E.from_table)
-  enough_and_short X E (short_table (load_table s)) = omega (arith, E.load_table)
-  enough_and_short X E (short_table (mark_table s)) = omega (arith, E.mark_table)
-  enough_and_short X E (word_row qs Y s) = omega (arith, E.word_row, ap (λ xs. length (words xs)) (list_one X Y))
-  enough_and_short X E (witness_row qs Y s) = omega (arith, E.witness_row, ap length (list_one X Y))
+  enough_and_short X E (short_table (to_table s)) = omega (arith, E.tables.to_table)
+  enough_and_short X E (short_table (from_table s)) = omega (arith, E.tables.from_table)
+  enough_and_short X E (short_table (load_table s)) = omega (arith, E.tables.load_table)
+  enough_and_short X E (short_table (mark_table s)) = omega (arith, E.tables.mark_table)
+  enough_and_short X E (short_row (for_words qs Y s)) = omega (arith, E.word_row, ap (λ xs. length (words xs)) (list_one X Y))
+  enough_and_short X E (short_row (for_witness qs Y s)) = omega (arith, E.witness_row, ap length (list_one X Y))
 
   pub pinned : {c d : Choice} → Chosen K N g c → Chosen K N g d → Agree c d
   pinned (faulty f a p) (faulty h b q) = refused_agree (ap refusal_of (finds_one K N f h a b)) p q

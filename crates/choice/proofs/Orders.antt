@@ -15,8 +15,10 @@ use Rattle.lengths.proofs.Checks.{sound_if_all, finds_first}
 use Rattle.drawing.specs.Rows.{wired, Gives}
 use Rattle.drawing.proofs.Rows.{rows_are_given_lem}
 use Rattle.drawing.proofs.Only.{list_one}
-use Rattle.choice.specs.declared.Counts.{Counts}
-use Rattle.choice.specs.Choice.{Lent, Choice, TooShort, short_table, to_table, from_table, load_table, mark_table, word_row, witness_row, Enough, over, Chosen, faulty, too_short}
+use Rattle.drawing.specs.declared.Counts.{Counts}
+use Rattle.drawing.specs.Room.{to_table, from_table, load_table, mark_table}
+use Rattle.drawing.specs.Rowed.{over, for_words, for_witness}
+use Rattle.choice.specs.Choice.{Lent, Choice, TooShort, short_table, short_row, Enough, Chosen, faulty, too_short}
 use Rattle.choice.specs.Orders.{Case, net_of, nothing, RefusedSo, lead, case, room, one_lead, ShortSo, OrdersStand, RoomStands, RowsChosen}
 use Rattle.choice.proofs.Choices.{refusal, refuses, pinned, accepts_if, listed, words_taken}
 
@@ -123,8 +125,8 @@ room_stands = record {
         (
           short (room 2 2 1 2 2 1) (short_table (mark_table (lit< tt))),
           (
-            short (room 2 2 1 3 1 1) (word_row row_gives.paths row_gives.list (omega (arith, ap length row_gives.words_are))),
-            (short (room 2 2 1 3 2 0) (witness_row row_gives.paths row_gives.list (omega (arith, number))), tt),
+            short (room 2 2 1 3 1 1) (short_row (for_words row_gives.paths row_gives.list (omega (arith, ap length row_gives.words_are)))),
+            (short (room 2 2 1 3 2 0) (short_row (for_witness row_gives.paths row_gives.list (omega (arith, number)))), tt),
           ),
         ),
       ),
@@ -140,10 +142,7 @@ room_stands = record {
 
     enough : (t f l m ws w : ℕ) → 2 ≤ t → 2 ≤ f → 1 ≤ l → 3 ≤ m → 2 ≤ ws → 1 ≤ w → Enough (wired picosecond_kind one_lead) row_gives.paths (room t f l m ws w)
     enough t f l m ws w a b c d e h = record {
-      to_table = a;
-      from_table = b;
-      load_table = c;
-      mark_table = d;
+      tables = record { to_table = a; from_table = b; load_table = c; mark_table = d };
       word_row = omega (arith, ap length row_gives.words_are, length-replicate {A = ℕ} ws 7);
       witness_row = omega (arith, number, length-replicate {A = ℕ} w 7);
     }
@@ -159,7 +158,7 @@ pub rows_chosen : {D : Type 0} {K : Kind D} → RowsChosen K
 rows_chosen {D} {K} r G g c S C = (short, given)
   where
     short : length g.word_row < length r.words → c.answer ≡ Err Room
-    short h = (pinned C (too_short S (word_row G.paths G.list (omega (arith, ap length G.words_are))) (refuses g Room))).answer
+    short h = (pinned C (too_short S (short_row (for_words G.paths G.list (omega (arith, ap length G.words_are)))) (refuses g Room))).answer
 
     given : (n : Counts) → c.answer ≡ Ok n → (n.words ≡ length r.words) × (take n.words c.word_row ≡ r.words)
     given n e =

@@ -1,5 +1,5 @@
 -- Choose: what it is lent, when it refuses, what it answers, and what the rows then hold.
-use Rattle.std.specs.Prelude.{◌≡◌, ℕ, ◌+◌, ◌<◌, ◌≤◌, List, ◌++◌, length, drop, Ok, Err, Result}
+use Rattle.std.specs.Prelude.{◌≡◌, ℕ, ◌≤◌, List, length, Ok, Err, Result}
 use Rattle.delay.specs.Kind.{Kind}
 use Rattle.wiring.specs.Net.{Net, Sound}
 use Rattle.wiring.specs.Lists.{ListOf, Witness, words}
@@ -7,14 +7,13 @@ use Rattle.wiring.specs.declared.refusals.Refusal.{Refusal}
 use Rattle.wiring.specs.declared.refusals.Refusal.TheVariants.{Room}
 use Rattle.lengths.specs.declared.check.Fault.{Fault}
 use Rattle.lengths.specs.Check.{Finds, refusal_of}
-use Rattle.choice.specs.declared.Counts.{Counts}
+use Rattle.drawing.specs.declared.Counts.{Counts}
+use Rattle.drawing.specs.Room.{Tables, RoomFor, TableShort}
+use Rattle.drawing.specs.Rowed.{over, counts, RowShort}
 
--- how many entries the four tables have (To, From, loads, marks), and the two rows as they stand
+-- how many entries the four tables have, and the two rows as they stand
 pub record Lent : Type 0 where
-  pub to_table : ℕ
-  pub from_table : ℕ
-  pub load_table : ℕ
-  pub mark_table : ℕ
+  pub tables : Tables
   pub word_row : List ℕ
   pub witness_row : List ℕ
 
@@ -24,40 +23,21 @@ pub record Choice : Type 0 where
   pub word_row : List ℕ
   pub witness_row : List ℕ
 
--- a table is shorter than the wiring needs: one length a node, one load a place, one mark for each of both
-pub data TableShort {D : Type 0} (N : Net D) (g : Lent) : Type 0 where
-  to_table : g.to_table < N.nodes → TableShort N g
-  from_table : g.from_table < N.nodes → TableShort N g
-  load_table : g.load_table < N.places → TableShort N g
-  mark_table : g.mark_table < N.nodes + N.places → TableShort N g
-
 -- a table is shorter than the wiring needs, or a row shorter than the list
 pub data TooShort {D : Type 0} (K : Kind D) (N : Net D) (g : Lent) : Type 0 where
-  short_table : TableShort N g → TooShort K N g
-  word_row : (ps : List (List ℕ)) → ListOf K N ps → length g.word_row < length (words ps) → TooShort K N g
-  witness_row : (ps : List (List ℕ)) → ListOf K N ps → length g.witness_row < length ps → TooShort K N g
+  short_table : TableShort N g.tables → TooShort K N g
+  short_row : RowShort K N g.word_row g.witness_row → TooShort K N g
 
 -- the wiring is refused before its list is looked for: the tables, which are scratch after that, are left as they are
 pub data Early {D : Type 0} (K : Kind D) (N : Net D) (g : Lent) : Type 0 where
   by_fault : (f : Fault) → Finds K N f → Early K N g
-  by_table : Sound K N → TableShort N g → Early K N g
+  by_table : Sound K N → TableShort N g.tables → Early K N g
 
 -- the tables have room for the wiring, and the rows for the list ps
 pub record Enough {D : Type 0} (N : Net D) (ps : List (List ℕ)) (g : Lent) : Type 0 where
-  pub to_table : N.nodes ≤ g.to_table
-  pub from_table : N.nodes ≤ g.from_table
-  pub load_table : N.places ≤ g.load_table
-  pub mark_table : N.nodes + N.places ≤ g.mark_table
+  pub tables : RoomFor N g.tables
   pub word_row : length (words ps) ≤ length g.word_row
   pub witness_row : length ps ≤ length g.witness_row
-
--- the row with xs written over its beginning, and past them as before
-abbrev pub over : List ℕ → List ℕ → List ℕ
-over row xs = xs ++ drop (length xs) row
-
--- how many paths and how many words
-abbrev pub counts : List (List ℕ) → Counts
-counts ps = record { paths = length ps; words = length (words ps) }
 
 -- r is answered, and both rows are as before
 pub record Refuses (g : Lent) (r : Refusal) (c : Choice) : Type 0 where

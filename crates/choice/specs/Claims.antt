@@ -9,7 +9,7 @@ use Rattle.wiring.specs.declared.refusals.Refusal.TheVariants.{Room}
 use Rattle.circuit.specs.Sheet.{PlainSheet, Tables, held}
 use Rattle.circuit.specs.Histories.{History}
 use Rattle.circuit.specs.Spread.{spread}
-use Rattle.choice.specs.declared.Counts.{Counts}
+use Rattle.drawing.specs.declared.Counts.{Counts}
 use Rattle.choice.specs.Choice.{Lent, Choice, Early, Enough, Refuses, Accepts, Chosen}
 
 -- the same signs, and the same leads at the same places; place counts may differ

@@ -11,7 +11,7 @@ use Rattle.wiring.specs.Views.{table_net}
 use Rattle.wiring.specs.declared.refusals.Refusal.{Refusal}
 use Rattle.wiring.specs.declared.refusals.Refusal.TheVariants.{Size, Ends, Delay, Room}
 use Rattle.drawing.specs.Rows.{Row, late, wired, Gives}
-use Rattle.choice.specs.declared.Counts.{Counts}
+use Rattle.drawing.specs.declared.Counts.{Counts}
 use Rattle.choice.specs.Choice.{Lent, Choice, Chosen}
 
 -- a wiring in picoseconds, with nothing lent, and why choose refuses it
@@ -24,7 +24,7 @@ abbrev pub net_of : Case → Net Picoseconds
 net_of x = table_net x.nodes x.leads
 
 abbrev pub nothing : Lent
-nothing = record { to_table = 0; from_table = 0; load_table = 0; mark_table = 0; word_row = []; witness_row = [] }
+nothing = record { tables = record { to_table = 0; from_table = 0; load_table = 0; mark_table = 0 }; word_row = []; witness_row = [] }
 
 pub record RefusedSo (x : Case) : Type 0 where
   pub answer : (c : Choice) → Chosen picosecond_kind (net_of x) nothing c → c.answer ≡ Err x.refusal
@@ -68,7 +68,11 @@ RowsChosen K = (r : Row) → Gives K r → RowChosen K r
 
 -- tables with so many entries, and rows of as many sevens
 abbrev pub room : ℕ → ℕ → ℕ → ℕ → ℕ → ℕ → Lent
-room t f l m ws w = record { to_table = t; from_table = f; load_table = l; mark_table = m; word_row = replicate ws 7; witness_row = replicate w 7 }
+room t f l m ws w = record {
+  tables = record { to_table = t; from_table = f; load_table = l; mark_table = m };
+  word_row = replicate ws 7;
+  witness_row = replicate w 7;
+}
 
 -- the wiring of the lead 0-1:0, with the list 1 0
 abbrev pub one_lead : Row

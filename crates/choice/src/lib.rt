@@ -7,22 +7,13 @@ ghost use Rattle.choice.specs.Orders.{OrdersStand, RoomStands, RowsChosen};
 
 use delay::Delay;
 
-/// The number of paths on a list, and of its words.
-#[derive(Clone, Copy)]
-pub struct Counts {
-    pub paths: usize,
-    pub words: usize,
-}
-
 /// Of choices, for every kind of delay: every wiring and whatever is lent has an outcome; only the
 /// witness is free in it; an accepted list covers every lead by as few paths as can be; sheets with
 /// equal signs and leads never get different lists, whatever calls made them; and rules are judged
 /// in order.
-pub fn choices_stand<D: Delay>() -> u8
+pub fn choices_stand<D: Delay>()
     ensures choices { ChoicesStand D.Delay.kind }
     ensures orders { OrdersStand }
     ensures room { RoomStands }
     ensures rows { RowsChosen D.Delay.kind }
-{
-    0
-}
+{}

@@ -20,22 +20,18 @@ pub struct Times {
 /// Of sheets: every history of calls keeps the limits; a refused call leaves the sheet as it was, or
 /// empty if it was load and refused at a lead record; an accepted edit changes one place; a sheet
 /// written to a file loads again; each call judges its rules in order; and the examples stand.
-pub fn sheets_stand() -> u8
+pub fn sheets_stand()
     ensures limits { HistoriesKeepLimits }
     ensures refusals { RefusedCallsLeave }
     ensures edits { EditsChangeOnePlace }
     ensures files { WrittenSheetsLoad }
     ensures orders { CallsJudgeInOrder }
     ensures examples { ExamplesStand }
-{
-    0
-}
+{}
 
 /// Of spreads, for every kind of delay: after every history of calls the spread is sound, and its
 /// paths and the pairs of a circuit path and a launched edge stand for each other, one to one.
-pub fn spreads_stand<D: Delay>() -> u8
+pub fn spreads_stand<D: Delay>()
     ensures sound { SpreadsAreSound D.Delay.kind }
     ensures pairs { PathsArePairs D.Delay.kind }
-{
-    0
-}
+{}

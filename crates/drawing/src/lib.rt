@@ -9,7 +9,7 @@ ghost use Rattle.drawing.specs.Rows.{RowsAreGiven};
 use delay::Delay;
 
 /// The number of paths on a list, and of its words.
-#[derive(Clone, Copy)]
+#[derive(Clone, Copy, PartialEq, Eq, Debug)]
 pub struct Counts {
     pub paths: usize,
     pub words: usize,
