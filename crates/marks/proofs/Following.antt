@@ -1,12 +1,14 @@
 -- The arcs of a node, one after another by their links.
-use Rattle.std.proofs.Common.{◌≡◌, ℕ, zero, suc, ◌+◌, ◌-◌, ◌<◌, Bool, true, false, cond, eqb, is_some, Some, None, Option, List, [], ◌∷◌, length, sym, refl, ap, ◌∙◌, subst, ⊎_elim, arith}
-use Rattle.std.specs.List.{filter, range_with_len}
+use Rattle.std.proofs.Common.{◌≡◌, ℕ, zero, suc, ◌+◌, ◌-◌, ◌<◌, Bool, true, false, cond, eqb, is_some, Some, None, Option, List, [], ◌∷◌, ◌++◌, length, ◌≤◌, sym, refl, ap, ◌∙◌, subst, ⊎_elim, append_assoc, length-append, arith}
+use Rattle.std.specs.List.{All, filter, range_with_len}
+use Rattle.std.proofs.Math.Seq.{get_or-append_seam}
+use Rattle.std.proofs.lemmas.List.Elements.{All-nil, All-head, All-tail, All-same, All-weaker, All-get_or, filter_passes}
 use Rattle.std.proofs.lemmas.Bool.{cases_eq, cases_lt, eq-eqb, eqb-true, and_from, and_parts, both_ways}
-use Rattle.std.proofs.lemmas.List.{get_or_past}
+use Rattle.std.proofs.lemmas.List.{get_or_past, append-nil}
 use Rattle.marks.specs.declared.mark.Mark.{Mark}
 use Rattle.marks.specs.Marks.{blank}
 use Rattle.marks.specs.Links.{arc_at, link_at, Earliest, belongs, Nexts, Linked}
-use Rattle.marks.specs.Follow.{near_at, arcs_from, Chained}
+use Rattle.marks.specs.Follow.{arcs_of, near_at, arcs_from, Chained}
 
 -- how many places are left from the next on
 abbrev pub ahead_of : ℕ → Option ℕ → ℕ
@@ -50,6 +52,22 @@ module _ (P : ℕ → Bool) where
       ∙ ap (λ (x : ℕ). filter P (range_with_len j x)) left)
       (cases_eq m j)
 
+-- what holds of all of them
+module _ (P : ℕ → Bool) (Q : ℕ → Type 0) where
+  picked_at : (m c : ℕ) → All Q (filter P (range_with_len m c)) → (k : ℕ) → m ≤ k → k < m + c → P k ≡ true → Q k
+  picked_at m zero h k a b p = absurd (omega arith)
+  picked_at m (suc c) h k a b p = ⊎_elim
+      (λ e. let here = ap (λ (b : Bool). cond b (m ∷ on) on) (ap P e ∙ p) in subst Q e (All-head Q m on (All-same Q (m ∷ on) _ (sym here) h)))
+      (λ n. picked_at (m + 1) c (later (P m) h) k (omega arith) (omega arith) p)
+      (cases_eq m k)
+    where
+      on : List ℕ
+      on = filter P (range_with_len (m + 1) c)
+
+      later : (b : Bool) → All Q (cond b (m ∷ on) on) → All Q on
+      later true = All-tail Q m on
+      later false = λ g. g
+
 -- a place with an arc is one of the table
 pub arc_within : (ps : List Mark) (k : ℕ) → arc_at ps k ≡ true → k < length ps
 arc_within ps k a = ⊎_elim (λ l. l) (λ l. absurd (both_ways (arc_at ps k) (ap (λ (m : Mark). is_some m.arc) (get_or_past ps k blank l)) a))
@@ -92,3 +110,40 @@ pub linked_first : (ps ns : List Mark) → Linked ps ns 0 → (along : Bool) (v 
     Earliest (belongs (arc_at ps) (near_at ps along) v) 0 (link_at ns along v)
 linked_first ps ns h true v l = h.out v l
 linked_first ps ns h false v l = h.into v l
+
+-- the arcs of a node are its arcs, and all of them
+pub arcs_each : (ps : List Mark) (along : Bool) (v : ℕ) → All (λ k. (arc_at ps k ≡ true) × (near_at ps along k ≡ v)) (arcs_of ps along v)
+arcs_each ps along v =
+    let P = belongs (arc_at ps) (near_at ps along) v in
+    let ks = range_with_len 0 (length ps) in
+    All-weaker (λ k. P k ≡ true) (λ k. (arc_at ps k ≡ true) × (near_at ps along k ≡ v))
+    (λ k p. let both = and_parts (arc_at ps k) (eqb (near_at ps along k) v) p in (both.0, eqb-true (near_at ps along k) v both.1))
+    (filter P ks) (filter_passes P ks)
+
+pub arcs_all : (ps : List Mark) (along : Bool) (v : ℕ) (Q : ℕ → Type 0) → All Q (arcs_of ps along v) →
+    (k : ℕ) → arc_at ps k ≡ true → near_at ps along k ≡ v → Q k
+arcs_all ps along v Q h k a e =
+    let P = belongs (arc_at ps) (near_at ps along) v in
+    picked_at P Q 0 (length ps) h k (omega arith) (omega (arith, arc_within ps k a))
+    (and_from (arc_at ps k) (eqb (near_at ps along k) v) a (eq-eqb (near_at ps along k) v e))
+
+-- a `for` over arcs: those passed and those left make up all; one more, and all passed
+pub passed_more : (all xs rest more : List ℕ) (k : ℕ) → all ≡ xs ++ rest → rest ≡ k ∷ more → all ≡ (xs ++ k ∷ []) ++ more
+passed_more all xs rest more k h e = h ∙ ap (λ r. xs ++ r) e ∙ sym (append_assoc xs (k ∷ []) more)
+
+pub passed_all : (all xs rest : List ℕ) → all ≡ xs ++ rest → rest ≡ [] → xs ≡ all
+passed_all all xs rest h e = sym (h ∙ ap (λ r. xs ++ r) e ∙ append-nil xs)
+
+-- what holds of all holds of the one at hand
+pub passing : (Q : ℕ → Type 0) (all xs rest more : List ℕ) (k : ℕ) → all ≡ xs ++ rest → rest ≡ k ∷ more → All Q all → Q k
+passing Q all xs rest more k h e each =
+    let at = h ∙ ap (λ r. xs ++ r) e in
+    subst Q (get_or-append_seam xs k more 0) (All-get_or Q (xs ++ k ∷ more) (length xs) 0 (simp length-append (omega arith)) (All-same Q (xs ++ k ∷ more) all (sym at) each))
+
+pub arcs_from_each : (ps : List Mark) (along : Bool) (o : Option ℕ) → All (λ k. arc_at ps k ≡ true) (arcs_from ps along o)
+arcs_from_each ps along None = All-nil (λ k. arc_at ps k ≡ true)
+arcs_from_each ps along (Some j) =
+    let P = belongs (arc_at ps) (near_at ps along) (near_at ps along j) in
+    let ks = range_with_len j (length ps - j) in
+    All-weaker (λ k. P k ≡ true) (λ k. arc_at ps k ≡ true)
+    (λ k p. (and_parts (arc_at ps k) (eqb (near_at ps along k) (near_at ps along j)) p).0) (filter P ks) (filter_passes P ks)
