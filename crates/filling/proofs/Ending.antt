@@ -58,12 +58,12 @@ module _ {D : Type 0} (N : Net D) where
         ∙ ap (end_of_lem N (m k)) (sym h)
 
   -- at a vacant place
-  pub ends_none : (m : Marks) (k : ℕ) → N.at k ≡ None → m k ≡ (false, false) → EndsOf N m k blank
+  pub ends_none : (m : Marks) (k : ℕ) → N.at k ≡ None → m k ≡ (false, false) → EndsOf N m k None
   ends_none m k e v = record { arc = sym (ap stands e); begin = sym (ap (begin_of N (m k)) e); end = sym (ap (end_of_lem N (m k)) e); class = sym v }
 
   -- all places are filled
   pub ends_all : (m : Marks) (ps : List Mark) → length ps ≡ N.places → ((k : ℕ) → N.places ≤ k → m k ≡ (false, false)) →
-      ((j : ℕ) → j < length ps → EndsOf N m j (get_or ps j blank)) → HoldsArcs N m ps
+      ((j : ℕ) → j < length ps → EndsOf N m j (get_or ps j blank).arc) → HoldsArcs N m ps
   ends_all m ps e past h = record {
     places = e;
     arc = fun_ext (λ k. (each k).arc);
@@ -72,7 +72,7 @@ module _ {D : Type 0} (N : Net D) where
     types = fun_ext (λ k. (each k).class);
   }
     where
-      each : (k : ℕ) → EndsOf N m k (get_or ps k blank)
+      each : (k : ℕ) → EndsOf N m k (get_or ps k blank).arc
       each k = ⊎_elim (h k)
-          (λ p. subst (EndsOf N m k) (sym (get_or_past ps k blank p)) (ends_none m k (N.vacant k (omega arith)) (past k (omega arith))))
+          (λ p. subst (λ (x : Mark). EndsOf N m k x.arc) (sym (get_or_past ps k blank p)) (ends_none m k (N.vacant k (omega arith)) (past k (omega arith))))
           (cases_lt k (length ps))

@@ -1,4 +1,3 @@
 pub mod Placing
 pub mod Measuring
 pub mod Ending
-pub mod Rows

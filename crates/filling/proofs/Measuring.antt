@@ -1,80 +1,83 @@
 -- The length of a node, lead by lead along its links.
-use Rattle.std.proofs.Common.{◌≡◌, ℕ, ◌+◌, ◌≤◌, true, eqb, List, Some, None, Option, sym, ap, ◌∙◌, subst, ⊎_elim, arith}
-use Rattle.std.proofs.lemmas.Bool.{cases_lt, and_from, eq-eqb, both_ways}
-use Rattle.delay.specs.Kind.{Kind, Laws, Within}
+use Rattle.std.proofs.Common.{◌≡◌, ℕ, ◌<◌, Bool, true, false, cond, List, [], ◌∷◌, ◌++◌, length, Some, None, Option, sym, refl, ap, ◌∙◌, subst}
+use Rattle.std.specs.List.{All}
+use Rattle.std.proofs.lemmas.List.Elements.{All-nil, All-same, All-push, All-weaker}
+use Rattle.delay.specs.Kind.{Kind, Laws, Within, Le}
+use Rattle.delay.proofs.Sums.{le_refl, le_trans, lt_le}
 use Rattle.wiring.specs.declared.Lead.{Lead}
 use Rattle.wiring.specs.Net.{Net, Holds, Sound, stands}
 use Rattle.wiring.specs.Lists.{head_in}
-use Rattle.wiring.proofs.Ends.{below_places}
+use Rattle.wiring.proofs.Ends.{below_places, one_lead}
 use Rattle.wiring.proofs.Types.{lead_at}
 use Rattle.lengths.specs.Steps.{longer_of, offer}
-use Rattle.lengths.proofs.Best.{BestBelow, best_jump, best_more}
+use Rattle.lengths.proofs.Best.{BestBelow}
 use Rattle.lengths.proofs.Filling.{Each, offers_within}
 use Rattle.marks.specs.declared.mark.Mark.{Mark}
-use Rattle.marks.specs.Links.{arc_at, end_at, into_at, Earliest, belongs, Linked}
-use Rattle.marks.proofs.Following.{head_at}
+use Rattle.marks.specs.Links.{arc_at, end_at}
+use Rattle.marks.specs.Follow.{arcs_of}
+use Rattle.marks.proofs.Following.{arcs_all, arcs_each}
 use Rattle.filling.specs.Leads.{Leads}
 
--- best is the longest that the leads into v give, up to some place, and `at` links to the next of them
-abbrev pub Offered : {D : Type 0} → Kind D → Net D → List Mark → (ℕ → D) → ℕ → Option D → Option ℕ → Type 0
-Offered K N ps to v best at =
-    (p : ℕ) × BestBelow K N (λ l. l.head ≡ v) (offer K to) p best × Earliest (belongs (arc_at ps) (end_at ps) v) p at
+-- at an arc that ends at the node v stands a lead into v
+pub linked_lead : {D : Type 0} (N : Net D) (ps : List Mark) → Leads N ps → (v k : ℕ) → (arc_at ps k ≡ true) × (end_at ps k ≡ v) →
+    (l : Lead D) × Holds N k l × (l.head ≡ v)
+linked_lead N ps P v k a =
+    let l = lead_at N k (sym (ap (λ f. f k) P.arc) ∙ a.0) in
+    (l.0, l.1, sym (ap (λ f. f k) P.end ∙ ap head_in l.1) ∙ a.1)
 
-module _ {D : Type 0} (N : Net D) (ps : List Mark) (P : Leads N ps) (v : ℕ) where
-  -- a lead into v belongs to v
-  into_v : (k : ℕ) (l : Lead D) → Holds N k l → l.head ≡ v → belongs (arc_at ps) (end_at ps) v k ≡ true
-  into_v k l h e = and_from (arc_at ps k) (eqb (end_at ps k) v)
-      (ap (λ f. f k) P.arc ∙ ap stands h)
-      (eq-eqb (end_at ps k) v (ap (λ f. f k) P.end ∙ ap head_in h ∙ e))
+module _ {D : Type 0} (K : Kind D) (N : Net D) (to : ℕ → D) (v : ℕ) where
+  -- what the lead at the place k gives v is not longer than b
+  abbrev pub NotOver : D → ℕ → Type 0
+  NotOver b k = (l : Lead D) → Holds N k l → l.head ≡ v → Le K (offer K to l) b
 
-  -- at the link stands a lead into v
-  pub linked_lead : (p k : ℕ) (at : Option ℕ) → Earliest (belongs (arc_at ps) (end_at ps) v) p at → at ≡ Some k → (l : Lead D) × Holds N k l × (l.head ≡ v)
-  linked_lead p k at h e =
-      let a = head_at (arc_at ps) (end_at ps) v p at k h e in
-      let l = lead_at N k (sym (ap (λ f. f k) P.arc) ∙ a.0) in
-      (l.0, l.1, sym (ap (λ f. f k) P.end ∙ ap head_in l.1) ∙ a.1)
+  -- best is the longest that the leads into v at the places ks give
+  abbrev pub BestIn : List ℕ → Option D → Type 0
+  BestIn ks None = ks ≡ []
+  BestIn ks (Some b) = ((k : ℕ) × (l : Lead D) × Holds N k l × (l.head ≡ v) × (offer K to l ≡ b)) × All (NotOver b) ks
 
--- behind a link the links go on
-pub linked_on : (ps : List Mark) (v : ℕ) (ns : List Mark) → Linked ps ns 0 → (p k : ℕ) (at : Option ℕ) → Earliest (belongs (arc_at ps) (end_at ps) v) p at →
-    at ≡ Some k → Earliest (belongs (arc_at ps) (end_at ps) v) (k + 1) (into_at ps k)
-linked_on ps v ns F p k at h e =
-    let a = head_at (arc_at ps) (end_at ps) v p at k h e in
-    subst (λ u. Earliest (belongs (arc_at ps) (end_at ps) u) (k + 1) (into_at ps k)) a.1 (F.next_into k (omega arith) a.0)
+  module _ (L : Laws K) (S : Sound K N) (R : Each K N to v) where
+    within : (k : ℕ) (l : Lead D) → Holds N k l → l.head ≡ v → Within K (offer K to l)
+    within = offers_within K N S to v R
 
-module _ {D : Type 0} (K : Kind D) (L : Laws K) (N : Net D) (S : Sound K N) (ps : List Mark) (P : Leads N ps) (to : ℕ → D) (v : ℕ) (R : Each K N to v) where
-  within : (k : ℕ) (l : Lead D) → Holds N k l → l.head ≡ v → Within K (offer K to l)
-  within = offers_within K N S to v R
+    itself : (k : ℕ) (l : Lead D) → Holds N k l → l.head ≡ v → NotOver (offer K to l) k
+    itself k l a q m e r = subst (λ (x : Lead D). Le K (offer K to x) (offer K to l)) (one_lead N k a e) (le_refl L (within k l a q))
 
-  -- one lead more
-  pub offered_more : (best : Option D) (at : Option ℕ) (k : ℕ) (l : Lead D) (next : Option ℕ) → Offered K N ps to v best at → at ≡ Some k → Holds N k l →
-      Earliest (belongs (arc_at ps) (end_at ps) v) (k + 1) next → Offered K N ps to v (Some (longer_of K best (offer K to l))) next
-  offered_more best at k l next o e h n =
-      let here = subst (Earliest (belongs (arc_at ps) (end_at ps) v) o.0) e o.2 in
-      let m = linked_lead N ps P v o.0 k at o.2 e in
-      let same : m.0 ≡ l = cc in
-      let q : l.head ≡ v = ap (λ (x : Lead D). x.head) (sym same) ∙ m.2 in (
-        k + 1,
-        best_more K L N (λ x. x.head ≡ v) (offer K to) within k best l
-            (best_jump K L N (λ x. x.head ≡ v) (offer K to) within o.0 k best here.0 o.1
-            (λ j i u x a q. both_ways (belongs (arc_at ps) (end_at ps) v j) (here.2 j i u) (into_v N ps P v j x a q))) h q,
-        n,
-      )
+    -- one lead more
+    pub best_in_more : (ks : List ℕ) (best : Option D) (k : ℕ) (l : Lead D) → BestIn ks best → Holds N k l → l.head ≡ v →
+        BestIn (ks ++ k ∷ []) (Some (longer_of K best (offer K to l)))
+    best_in_more ks None k l h a q = (
+      (k, l, a, q, refl),
+      All-push (NotOver (offer K to l)) ks k (All-same (NotOver (offer K to l)) ks [] h (All-nil (NotOver (offer K to l)))) (itself k l a q),
+    )
+    best_in_more ks (Some b) k l h a q = pick (K.below b (offer K to l)) refl
+      where
+        d : D
+        d = offer K to l
 
-  -- no lead more
-  pub offered_all : (best : Option D) (at : Option ℕ) → Offered K N ps to v best at → at ≡ None → BestBelow K N (λ l. l.head ≡ v) (offer K to) N.places best
-  offered_all best at o e =
-      let none = subst (Earliest (belongs (arc_at ps) (end_at ps) v) o.0) e o.2 in
-      let bars : (j : ℕ) → o.0 ≤ j → (x : Lead D) → Holds N j x → x.head ≡ v → ⊥ =
-      λ j i x a q. both_ways (belongs (arc_at ps) (end_at ps) v j) (none j i) (into_v N ps P v j x a q) in
-      ⊎_elim
-      (λ i. best_jump K L N (λ x. x.head ≡ v) (offer K to) within o.0 N.places best (omega arith) o.1 (λ j a b x. bars j a x))
-      (λ i. best_cut o.0 best i o.1)
-      (cases_lt o.0 N.places)
-    where
-      best_cut : (p : ℕ) (best : Option D) → N.places ≤ p → BestBelow K N (λ l. l.head ≡ v) (offer K to) p best → BestBelow K N (λ l. l.head ≡ v)
-          (offer K to) N.places best
-      best_cut p None i h = λ k j l a q. h k (omega arith) l a q
-      best_cut p (Some b) i h = let w = h.0 in (
-        (w.0, w.1, below_places N w.0 w.1 w.3, w.3, w.4, w.5),
-        λ k j l a q. h.1 k (omega arith) l a q,
-      )
+        within_b : Within K b
+        within_b = let w = h.0 in subst (Within K) w.4 (within w.0 w.1 w.2 w.3)
+
+        pick : (c : Bool) → K.below b d ≡ c → BestIn (ks ++ k ∷ []) (Some (cond c d b))
+        pick true i = (
+          (k, l, a, q, refl),
+          All-push (NotOver d) ks k
+              (All-weaker (NotOver b) (NotOver d)
+              (λ j n m e r. le_trans L (within j m e r) within_b (within k l a q) (n m e r) (lt_le L within_b (within k l a q) i)) ks h.1)
+              (itself k l a q),
+        )
+        pick false i = (
+          h.0,
+          All-push (NotOver b) ks k h.1 (λ m e r. subst (λ (x : Lead D). Le K (offer K to x) b) (one_lead N k a e) i),
+        )
+
+  -- what holds at all arcs that end at v holds at all leads into v
+  at_place : (ps : List Mark) → Leads N ps → (Q : ℕ → Type 0) → All Q (arcs_of ps false v) → (k : ℕ) (l : Lead D) → Holds N k l → l.head ≡ v → Q k
+  at_place ps P Q g k l a q = arcs_all ps false v Q g k (ap (λ f. f k) P.arc ∙ ap stands a) (ap (λ f. f k) P.end ∙ ap head_in a ∙ q)
+
+  pub best_in_all : (ps : List Mark) → Leads N ps → (best : Option D) → BestIn (arcs_of ps false v) best →
+      BestBelow K N (λ l. l.head ≡ v) (offer K to) N.places best
+  best_in_all ps P None h = λ k i l a q. at_place ps P (λ _. ⊥) (All-same (λ _. ⊥) (arcs_of ps false v) [] h (All-nil (λ _. ⊥))) k l a q
+  best_in_all ps P (Some b) h = let w = h.0 in (
+    (w.0, w.1, below_places N w.0 w.1 w.2, w.2, w.3, w.4),
+    λ k i l a q. at_place ps P (NotOver b) h.1 k l a q l a q,
+  )

@@ -1,5 +1,5 @@
 -- Leads put at their places, one after another.
-use Rattle.std.proofs.Common.{◌≡◌, ℕ, ◌<◌, true, List, length, get_or, Some, sym, ap, ◌∙◌, ⊎_elim, arith}
+use Rattle.std.proofs.Common.{◌≡◌, ℕ, ◌<◌, true, List, length, get_or, is_some, Some, sym, ap, ◌∙◌, ⊎_elim, arith}
 use mathlib.Core.Path.{fun_ext}
 use Rattle.std.proofs.lemmas.Bool.{cases_lt}
 use Rattle.std.proofs.lemmas.List.{get_or_past}
@@ -10,31 +10,32 @@ use Rattle.wiring.specs.Lists.{tail_in, head_in, tail_at, head_node}
 use Rattle.wiring.proofs.Ends.{head_inside}
 use Rattle.wiring.proofs.Types.{lead_at}
 use Rattle.marks.specs.declared.mark.Mark.{Mark}
-use Rattle.marks.specs.Marks.{blank}
+use Rattle.marks.specs.Marks.{blank, begin_in, end_in}
 use Rattle.marks.specs.Links.{arc_at, begin_at, end_at}
-use Rattle.filling.specs.Leads.{Leads}
+use Rattle.filling.specs.Leads.{ArcOf, Leads}
 
 module _ {D : Type 0} (N : Net D) where
-  -- the mark x is that of the place k
+  -- the mark x holds the arc of the lead at the place k
   abbrev pub Placed : ℕ → Mark → Type 0
-  Placed k x = (x.arc ≡ is_lead N k) × (x.begin ≡ tail_at N k) × (x.end ≡ head_node N k)
+  Placed k x = ArcOf (N.at k) x.arc
 
   -- all places are filled
   pub placed_all : (ps : List Mark) → length ps ≡ N.places → ((j : ℕ) → j < length ps → Placed j (get_or ps j blank)) → Leads N ps
   placed_all ps e h = record {
     places = e;
-    arc = fun_ext (λ k. (each k).0);
-    begin = fun_ext (λ k. (each k).1);
-    end = fun_ext (λ k. (each k).2);
+    arc = fun_ext (λ k. (each k).arc);
+    begin = fun_ext (λ k. (each k).begin);
+    end = fun_ext (λ k. (each k).end);
   }
     where
       each : (k : ℕ) → Placed k (get_or ps k blank)
       each k = ⊎_elim (h k) (λ p.
-          let past = get_or_past ps k blank p in let none = N.vacant k (omega arith) in (
-            ap (λ (x : Mark). x.arc) past ∙ sym (ap stands none),
-            ap (λ (x : Mark). x.begin) past ∙ sym (ap tail_in none),
-            ap (λ (x : Mark). x.end) past ∙ sym (ap head_in none),
-          )) (cases_lt k (length ps))
+          let past = get_or_past ps k blank p in let none = N.vacant k (omega arith) in
+          record {
+            arc = ap (λ (x : Mark). is_some x.arc) past ∙ sym (ap stands none);
+            begin = ap (λ (x : Mark). begin_in x.arc) past ∙ sym (ap tail_in none);
+            end = ap (λ (x : Mark). end_in x.arc) past ∙ sym (ap head_in none);
+          }) (cases_lt k (length ps))
 
   -- the ends of a lead that a sound wiring holds fit 16 bits, and are nodes
   pub ends_small : {K : Kind D} → Sound K N → (k : ℕ) (l : Lead D) → Some l ≡ N.at k → (l.tail < 65536) × (l.head < 65536)

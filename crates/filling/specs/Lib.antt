@@ -1,3 +1,2 @@
 pub mod Leads
 pub mod Ends
-pub mod Refilled

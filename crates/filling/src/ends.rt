@@ -4,7 +4,7 @@ ghost use Rattle.std.specs.Prelude.{◌≡◌, ◌<◌, ◌≤◌, not, ◌||◌
 ghost use Rattle.wiring.specs.Lengths.{marks_of};
 ghost use Rattle.lengths.specs.Asked.{Filled};
 ghost use Rattle.lengths.specs.Tables.{entry, Untouched};
-ghost use Rattle.marks.specs.Links.{out_at, into_at};
+ghost use Rattle.marks.specs.Links.{link_at};
 ghost use Rattle.cover.specs.Arcs.{highest_node};
 ghost use Rattle.filling.specs.Leads.{NodeLinks};
 ghost use Rattle.filling.specs.Ends.{EndsOf, HoldsArcs};
@@ -12,70 +12,50 @@ ghost use Rattle.filling.specs.Ends.{EndsOf, HoldsArcs};
 use delay::Delay;
 use lengths::asked::classify;
 use lengths::table::Lengths;
-use marks::link::{link_arcs, link_of};
-use marks::mark::Mark;
+use marks::link::link_of;
+use marks::mark::{Arc, Mark};
 use wiring::Wiring;
 
-// The node at which the arc of a lead begins. A lead that does not drain, or whose tail has no lead
-// in, is a start lead and begins at the source, node 0.
-fn begin_node(nodes: &[Mark], class: (bool, bool), tail: usize) -> u16
-    requires inside { tail < length nodes.now }
+// An end of an arc: the node itself, where a core may go on through it by its leads out or, against,
+// by those into it; else the pole.
+fn end_or_pole(nodes: &[Mark], inner: bool, node: usize, along: bool, pole: u16) -> u16
+    requires inside { node < length nodes.now }
     requires small { length nodes.now ≤ 4096 }
-    ensures { result ≡ (if not class.0 || not (is_some (into_at nodes.now tail)) then 0 else tail) }
+    ensures { result ≡ (if not inner || not (is_some (link_at nodes.now along node)) then pole else node) }
 {
-    let (drains, _) = class;
-    if drains && link_of(nodes, tail, false).is_some() {
-        tail as u16
+    if inner && link_of(nodes, node, along).is_some() {
+        node as u16
     } else {
-        0
+        pole
     }
 }
 
-// The node at which the arc of a lead ends. A lead that is not fed, or whose head has no lead out,
-// is an end lead and ends at the sink.
-fn end_node(nodes: &[Mark], class: (bool, bool), head: usize, sink: u16) -> u16
-    requires inside { head < length nodes.now }
-    requires small { length nodes.now ≤ 4096 }
-    ensures { result ≡ (if not class.1 || not (is_some (out_at nodes.now head)) then sink else head) }
-{
-    let (_, fed) = class;
-    if fed && link_of(nodes, head, true).is_some() {
-        head as u16
-    } else {
-        sink
-    }
-}
-
-// The mark of a place: the arc of its lead, and the lead's type.
-fn arc_mark<D: Delay, W: Wiring<D>>(
+// The arc of the lead at a place, with the lead's type. A lead that does not drain, or whose tail has no
+// lead in, is a start lead and begins at the source, node 0; one that is not fed, or whose head has no
+// lead out, is an end lead and ends at the sink.
+fn arc_at<D: Delay, W: Wiring<D>>(
     w: &W,
     to: &mut Lengths<D>,
     from: &mut Lengths<D>,
     nodes: &[Mark],
     k: usize,
     sink: u16,
-) -> Mark
+) -> Option<Arc>
     requires filled { Filled D.Delay.kind (W.Wiring.net w.now) to.old.table.now from.old.table.now }
     requires nodes { length nodes.now ≡ (W.Wiring.net w.now).nodes }
     requires links { NodeLinks (W.Wiring.net w.now) nodes.now }
     requires sink { sink ≡ highest_node (W.Wiring.net w.now) }
-    ensures mark { EndsOf (W.Wiring.net w.now) (marks_of D.Delay.kind (W.Wiring.net w.now) (entry D.Delay.kind to.old.table.now) (entry D.Delay.kind from.old.table.now)) k result }
+    ensures ends { EndsOf (W.Wiring.net w.now) (marks_of D.Delay.kind (W.Wiring.net w.now) (entry D.Delay.kind to.old.table.now) (entry D.Delay.kind from.old.table.now)) k result }
     ensures to_kept { Untouched to.old to.new }
     ensures from_kept { Untouched from.old from.new }
 {
-    let Some(lead) = w.lead(k) else {
-        return Mark::VACANT;
-    };
-    let Some(class) = classify(w, to, from, k) else {
-        return Mark::VACANT;
-    };
-    Mark {
-        arc: true,
-        begin: begin_node(nodes, class, lead.tail),
-        end: end_node(nodes, class, lead.head, sink),
-        class,
-        ..Mark::VACANT
-    }
+    let lead = w.lead(k)?;
+    let (drains, fed) = classify(w, to, from, k)?;
+    Some(Arc {
+        begin: end_or_pole(nodes, drains, lead.tail, false, 0),
+        end: end_or_pole(nodes, fed, lead.head, true, sink),
+        class: (drains, fed),
+    })
 }
 
 // Puts the arc of every lead at its place.
@@ -96,7 +76,10 @@ pub(crate) fn fill_arcs<D: Delay, W: Wiring<D>>(
     ensures to_kept { Untouched to.old to.new }
     ensures from_kept { Untouched from.old from.new }
 {
-    for k in 0..places.len() {
-        places[k] = arc_mark(w, to, from, nodes, k, sink);
+    for (k, place) in places.iter_mut().enumerate() {
+        *place = Mark {
+            arc: arc_at(w, to, from, nodes, k, sink),
+            ..Mark::VACANT
+        };
     }
 }

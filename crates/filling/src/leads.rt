@@ -1,30 +1,26 @@
 //! The leads of a wiring as arcs of the mark table, linked at their nodes.
 ghost use Rattle.std.specs.Prelude.{◌≡◌, ◌<◌, length, Some};
 ghost use Rattle.wiring.specs.declared.Lead.{Lead as LeadRecord};
-ghost use Rattle.wiring.specs.Net.{Sound, stands};
-ghost use Rattle.wiring.specs.Lists.{tail_in, head_in};
+ghost use Rattle.wiring.specs.Net.{Sound};
 ghost use Rattle.marks.specs.Links.{Linked};
-ghost use Rattle.filling.specs.Leads.{Leads};
+ghost use Rattle.filling.specs.Leads.{ArcOf, Leads, LinkedLeads};
 
 use delay::Delay;
 use marks::link::link_arcs;
-use marks::mark::Mark;
+use marks::mark::{Arc, Mark};
 use wiring::{Lead, Wiring};
 
-// The mark of a place: an arc from tail to head where a lead stands.
-fn lead_mark<D: Delay>(lead: Option<Lead<D>>) -> Mark
+// The arc of a lead, from its tail to its head. Its type is not known yet.
+fn lead_arc<D: Delay>(lead: Option<Lead<D>>) -> Option<Arc>
     requires { (l : LeadRecord D) → lead ≡ Some l → (l.tail < 65536) × (l.head < 65536) }
-    ensures { (result.arc ≡ stands lead) × (result.begin ≡ tail_in lead) × (result.end ≡ head_in lead) }
+    ensures { ArcOf lead result }
 {
-    match lead {
-        Some(l) => Mark {
-            arc: true,
-            begin: l.tail as u16,
-            end: l.head as u16,
-            ..Mark::VACANT
-        },
-        None => Mark::VACANT,
-    }
+    let lead = lead?;
+    Some(Arc {
+        begin: lead.tail as u16,
+        end: lead.head as u16,
+        class: (false, false),
+    })
 }
 
 // Puts every lead at its place.
@@ -33,8 +29,11 @@ fn fill_leads<D: Delay, W: Wiring<D>>(w: &W, places: &mut [Mark])
     requires places { length places.old ≡ (W.Wiring.net w.now).places }
     ensures { Leads (W.Wiring.net w.now) places.new }
 {
-    for k in 0..places.len() {
-        places[k] = lead_mark(w.lead(k));
+    for (k, place) in places.iter_mut().enumerate() {
+        *place = Mark {
+            arc: lead_arc(w.lead(k)),
+            ..Mark::VACANT
+        };
     }
 }
 
@@ -43,8 +42,7 @@ pub fn link_leads<D: Delay, W: Wiring<D>>(w: &W, nodes: &mut [Mark], places: &mu
     requires sound { Sound D.Delay.kind (W.Wiring.net w.now) }
     requires nodes { length nodes.old ≡ (W.Wiring.net w.now).nodes }
     requires places { length places.old ≡ (W.Wiring.net w.now).places }
-    ensures leads { Leads (W.Wiring.net w.now) places.new }
-    ensures linked { Linked places.new nodes.new 0 }
+    ensures { LinkedLeads D.Delay.kind (W.Wiring.net w.now) nodes.new places.new }
 {
     fill_leads(w, places);
     link_arcs(nodes, places);

@@ -3,10 +3,9 @@ ghost use Rattle.std.specs.Prelude.{◌≡◌, ◌≤◌, length};
 ghost use Rattle.wiring.specs.Net.{Sound};
 ghost use Rattle.wiring.specs.Lengths.{marks_of};
 ghost use Rattle.lengths.specs.Asked.{Filled};
-ghost use Rattle.lengths.specs.Tables.{entry};
+ghost use Rattle.lengths.specs.Tables.{entry, Refilled};
 ghost use Rattle.marks.specs.Links.{Linked};
 ghost use Rattle.filling.specs.Ends.{HoldsArcs};
-ghost use Rattle.filling.specs.Refilled.{Refilled};
 
 use crate::ends::fill_arcs;
 use crate::measure::{measure_from, measure_to};

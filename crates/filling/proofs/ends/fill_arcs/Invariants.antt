@@ -8,6 +8,6 @@ use Rattle.filling.proofs.ends.fill_arcs.Given as goal
 abbrev pub invariant-loop-k : goal.invariant-loop-k
 invariant-loop-k g l =
     let K = g.D.Delay.kind in let N = g.W.Wiring.net l.w in
-    ((j : ℕ) → j < l.k → EndsOf N (marks_of K N (entry K l.initial.to.table.now) (entry K l.initial.from.table.now)) j (get_or l.places j blank))
+    ((j : ℕ) → j < l.k → EndsOf N (marks_of K N (entry K l.initial.to.table.now) (entry K l.initial.from.table.now)) j (get_or l.places j blank).arc)
     × Untouched l.initial.to l.to
     × Untouched l.initial.from l.from

@@ -5,28 +5,18 @@ use Rattle.cover.proofs.Arcs.{arcs_sound}
 use Rattle.filling.proofs.Ending.{node_links}
 use Rattle.filling.proofs.prepare.prepare.Goals as goal
 
-pub fill_arcs-requires : goal.fill_arcs-requires
-fill_arcs-requires g c =
+pub fill_arcs-requires-clause-links : goal.fill_arcs-requires-clause-links
+fill_arcs-requires-clause-links g c =
     let N = g.W.Wiring.net c.args.w.now in
-    record {
-      filled = record { sound = c.requires.sound; to_is = c.measure_to.ensures.filled; from_is = c.measure_from.ensures.filled };
-      nodes = omega arith;
-      links = node_links N c.measure_to.new.places c.measure_to.new.nodes c.measure_to.ensures.leads c.measure_to.ensures.linked;
-      places = c.measure_to.ensures.leads.places;
-      sink = omega (arith, c.nodes.ensures, c.requires.two);
-    }
+    node_links N c.measure_to.new.places c.measure_to.new.nodes c.measure_to.ensures.linked.leads c.measure_to.ensures.linked.linked
 
-pub link_arcs-requires : goal.link_arcs-requires
-link_arcs-requires g c =
+pub link_arcs-requires-clause-within : goal.link_arcs-requires-clause-within
+link_arcs-requires-clause-within g c =
     let K = g.D.Delay.kind in let N = g.W.Wiring.net c.args.w.now in
     let to = entry K c.measure_to.new.to.table.now in let from = entry K c.measure_from.new.from.table.now in
     let H = c.fill_arcs.ensures.arcs in
     let T = arcs_sound c.requires.sound (marks_of K N to from) in
-    let few = c.requires.sound.few_places in
-    record {
-      small = omega (arith, H.places);
-      within = λ k a.
-          let arc = sym (ap (λ f. f k) H.arc) ∙ a in
-          let b = ap (λ f. f k) H.begin in let e = ap (λ f. f k) H.end in
-          (omega (arith, T.up k arc, T.within k arc, c.requires.nodes), omega (arith, T.within k arc, c.requires.nodes));
-    }
+    λ k a.
+        let arc = sym (ap (λ f. f k) H.arc) ∙ a in
+        let b = ap (λ f. f k) H.begin in let e = ap (λ f. f k) H.end in
+        (omega (arith, T.up k arc, T.within k arc, c.requires.nodes), omega (arith, T.within k arc, c.requires.nodes))
