@@ -1,8 +1,5 @@
 -- Where the arcs of leads begin and end, told by the links of the nodes.
-use Rattle.std.proofs.Common.{◌≡◌, ℕ, ◌<◌, ◌≤◌, Bool, true, false, cond, not, ◌&&◌, ◌||◌, List, length, get_or, is_some, Some, None, Option, sym, refl, ap, ◌∙◌, subst, ⊎_elim, arith}
-use mathlib.Core.Path.{fun_ext}
-use Rattle.std.proofs.lemmas.Bool.{cases_lt}
-use Rattle.std.proofs.lemmas.List.{get_or_past}
+use Rattle.std.proofs.Common.{◌≡◌, ℕ, ◌<◌, Bool, true, false, cond, not, ◌&&◌, ◌||◌, List, length, is_some, Some, None, Option, sym, refl, ap, ◌∙◌}
 use Rattle.wiring.specs.declared.Lead.{Lead}
 use Rattle.wiring.specs.Net.{Net, Holds, stands, has_lead_in, has_lead_out}
 use Rattle.wiring.specs.Lengths.{Marks}
@@ -10,12 +7,10 @@ use Rattle.wiring.specs.Lists.{tail_in, head_in}
 use Rattle.wiring.proofs.Ends.{has_in, has_out, lead_in, lead_out}
 use Rattle.wiring.proofs.Types.{lead_at}
 use Rattle.marks.specs.declared.mark.Mark.{Mark}
-use Rattle.marks.specs.Marks.{blank}
 use Rattle.marks.specs.Links.{arc_at, begin_at, end_at, out_at, into_at, Earliest, belongs, Linked}
 use Rattle.marks.proofs.Following.{head_at, head_some}
 use Rattle.cover.specs.Arcs.{begin_at as begin_of, end_at as end_of_lem, arc_table, highest_node}
 use Rattle.filling.specs.Leads.{Leads, NodeLinks}
-use Rattle.filling.specs.Ends.{EndsOf, HoldsArcs}
 
 -- a link stands where a test can be met, and only there
 linked_decides : (A : ℕ → Bool) (B : ℕ → ℕ) (v : ℕ) (o : Option ℕ) → Earliest (belongs A B v) 0 o → (b : Bool) →
@@ -56,23 +51,3 @@ module _ {D : Type 0} (N : Net D) where
         ap (λ b. cond (not (m k).1 || not b) (highest_node N) l.head) out
         ∙ ap (λ b. cond (not (m k).1 || (b && not (has_lead_out N l.head))) (highest_node N) l.head) (sym into)
         ∙ ap (end_of_lem N (m k)) (sym h)
-
-  -- at a vacant place
-  pub ends_none : (m : Marks) (k : ℕ) → N.at k ≡ None → m k ≡ (false, false) → EndsOf N m k None
-  ends_none m k e v = record { arc = sym (ap stands e); begin = sym (ap (begin_of N (m k)) e); end = sym (ap (end_of_lem N (m k)) e); class = sym v }
-
-  -- all places are filled
-  pub ends_all : (m : Marks) (ps : List Mark) → length ps ≡ N.places → ((k : ℕ) → N.places ≤ k → m k ≡ (false, false)) →
-      ((j : ℕ) → j < length ps → EndsOf N m j (get_or ps j blank).arc) → HoldsArcs N m ps
-  ends_all m ps e past h = record {
-    places = e;
-    arc = fun_ext (λ k. (each k).arc);
-    begin = fun_ext (λ k. (each k).begin);
-    end = fun_ext (λ k. (each k).end);
-    types = fun_ext (λ k. (each k).class);
-  }
-    where
-      each : (k : ℕ) → EndsOf N m k (get_or ps k blank).arc
-      each k = ⊎_elim (h k)
-          (λ p. subst (λ (x : Mark). EndsOf N m k x.arc) (sym (get_or_past ps k blank p)) (ends_none m k (N.vacant k (omega arith)) (past k (omega arith))))
-          (cases_lt k (length ps))

@@ -1,5 +1,5 @@
 -- The length of a node, lead by lead along its links.
-use Rattle.std.proofs.Common.{◌≡◌, ℕ, ◌<◌, Bool, true, false, cond, List, [], ◌∷◌, ◌++◌, length, Some, None, Option, sym, refl, ap, ◌∙◌, subst}
+use Rattle.std.proofs.Common.{◌≡◌, ℕ, Bool, true, false, cond, List, [], ◌∷◌, ◌++◌, Some, None, Option, sym, refl, ap, ◌∙◌, subst}
 use Rattle.std.specs.List.{All}
 use Rattle.std.proofs.lemmas.List.Elements.{All-nil, All-same, All-push, All-weaker}
 use Rattle.delay.specs.Kind.{Kind, Laws, Within, Le}
@@ -15,7 +15,7 @@ use Rattle.lengths.proofs.Filling.{Each, offers_within}
 use Rattle.marks.specs.declared.mark.Mark.{Mark}
 use Rattle.marks.specs.Links.{arc_at, end_at}
 use Rattle.marks.specs.Follow.{arcs_of}
-use Rattle.marks.proofs.Following.{arcs_all, arcs_each}
+use Rattle.marks.proofs.Following.{arcs_all}
 use Rattle.filling.specs.Leads.{Leads}
 
 -- at an arc that ends at the node v stands a lead into v

@@ -80,6 +80,7 @@ pub fn measure_from<D: Delay, W: Wiring<D>>(
     ensures filled { HoldsFrom D.Delay.kind (W.Wiring.net w.now) from.new.table.now }
     ensures rest { Refilled (W.Wiring.net w.now).nodes from.old from.new }
 {
-    measure_to(&turn_round(w), from, nodes, places);
+    let turned = turn_round(w);
+    measure_to(&turned, from, nodes, places);
     from.turn_back(w);
 }
