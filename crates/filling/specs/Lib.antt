@@ -1,2 +1,3 @@
 pub mod Leads
 pub mod Ends
+pub mod Fitted

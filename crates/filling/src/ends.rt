@@ -4,15 +4,15 @@ ghost use Rattle.std.specs.Prelude.{◌≡◌, ◌<◌, ◌≤◌, not, ◌||◌
 ghost use Rattle.wiring.specs.Lengths.{marks_of};
 ghost use Rattle.lengths.specs.Asked.{Filled};
 ghost use Rattle.lengths.specs.Tables.{entry, Untouched};
-ghost use Rattle.marks.specs.Links.{link_at};
+ghost use Rattle.marks.specs.Links.{link_at, Linked};
 ghost use Rattle.cover.specs.Arcs.{highest_node};
-ghost use Rattle.filling.specs.Leads.{NodeLinks};
+ghost use Rattle.filling.specs.Leads.{LinkedLeads, NodeLinks};
 ghost use Rattle.filling.specs.Ends.{EndsOf, HoldsArcs};
 
 use delay::Delay;
 use lengths::asked::classify;
 use lengths::table::Lengths;
-use marks::link::link_of;
+use marks::link::{link_arcs, link_of};
 use marks::mark::{Arc, Mark};
 use wiring::Wiring;
 
@@ -59,7 +59,7 @@ fn arc_at<D: Delay, W: Wiring<D>>(
 }
 
 // Puts the arc of every lead at its place.
-pub(crate) fn fill_arcs<D: Delay, W: Wiring<D>>(
+fn fill_arcs<D: Delay, W: Wiring<D>>(
     w: &W,
     to: &mut Lengths<D>,
     from: &mut Lengths<D>,
@@ -82,4 +82,25 @@ pub(crate) fn fill_arcs<D: Delay, W: Wiring<D>>(
             ..Mark::VACANT
         };
     }
+}
+
+// Puts the arc of every lead at its place, and links the arcs of each node.
+pub(crate) fn link_ends<D: Delay, W: Wiring<D>>(
+    w: &W,
+    to: &mut Lengths<D>,
+    from: &mut Lengths<D>,
+    nodes: &mut [Mark],
+    places: &mut [Mark],
+)
+    requires filled { Filled D.Delay.kind (W.Wiring.net w.now) to.old.table.now from.old.table.now }
+    requires two { 2 ≤ (W.Wiring.net w.now).nodes }
+    requires linked { LinkedLeads D.Delay.kind (W.Wiring.net w.now) nodes.old places.old }
+    ensures arcs { HoldsArcs (W.Wiring.net w.now) (marks_of D.Delay.kind (W.Wiring.net w.now) (entry D.Delay.kind to.old.table.now) (entry D.Delay.kind from.old.table.now)) places.new }
+    ensures linked { Linked places.new nodes.new 0 }
+    ensures to_kept { Untouched to.old to.new }
+    ensures from_kept { Untouched from.old from.new }
+{
+    let sink = (w.nodes() - 1) as u16;
+    fill_arcs(w, to, from, nodes, places, sink);
+    link_arcs(nodes, places);
 }

@@ -3,6 +3,7 @@
 #![tactic(auto)]
 
 pub mod ends;
+pub mod fitted;
 pub mod leads;
 pub mod measure;
 pub mod prepare;

@@ -3,20 +3,20 @@ use Rattle.wiring.specs.Lengths.{marks_of}
 use Rattle.lengths.specs.Tables.{entry}
 use Rattle.cover.proofs.Arcs.{arcs_sound}
 use Rattle.filling.proofs.Ending.{node_links}
-use Rattle.filling.proofs.prepare.prepare.Goals as goal
+use Rattle.filling.proofs.ends.link_ends.Goals as goal
 
 pub fill_arcs-requires-clause-links : goal.fill_arcs-requires-clause-links
 fill_arcs-requires-clause-links g c =
     let N = g.W.Wiring.net c.args.w.now in
-    node_links N c.measure_to.new.places c.measure_to.new.nodes c.measure_to.ensures.linked.leads c.measure_to.ensures.linked.linked
+    node_links N c.args.places.now c.args.nodes.now c.requires.linked.leads c.requires.linked.linked
 
 pub link_arcs-requires-clause-within : goal.link_arcs-requires-clause-within
 link_arcs-requires-clause-within g c =
     let K = g.D.Delay.kind in let N = g.W.Wiring.net c.args.w.now in
-    let to = entry K c.measure_to.new.to.table.now in let from = entry K c.measure_from.new.from.table.now in
+    let to = entry K c.args.to.now.table.now in let from = entry K c.args.from.now.table.now in
     let H = c.fill_arcs.ensures.arcs in
-    let T = arcs_sound c.requires.sound (marks_of K N to from) in
+    let T = arcs_sound c.requires.filled.sound (marks_of K N to from) in
     λ k a.
         let arc = sym (ap (λ f. f k) H.arc) ∙ a in
         let b = ap (λ f. f k) H.begin in let e = ap (λ f. f k) H.end in
-        (omega (arith, T.up k arc, T.within k arc, c.requires.nodes), omega (arith, T.within k arc, c.requires.nodes))
+        (omega (arith, T.up k arc, T.within k arc, c.requires.linked.nodes), omega (arith, T.within k arc, c.requires.linked.nodes))
