@@ -23,91 +23,68 @@ fn fault(nodes: usize, leads: &[Place]) -> Result<(), Fault> {
 
 #[test]
 fn nodes_up_to_4096(rt: HostRuntime) {
-    assert!(rt; matches!(fault(4096, &[]), Ok(())));
-    assert!(rt; matches!(fault(4097, &[]), Err(Fault::Size)));
+    assert_eq!(rt; fault(4096, &[]), Ok(()));
+    assert_eq!(rt; fault(4097, &[]), Err(Fault::Size));
 }
 
 #[test]
 fn places_up_to_4096(rt: HostRuntime) -> Result<(), Fail> {
-    let mut places: Vec<Place> = Vec::new(rt.alloc());
-    for _place in 0..4096 {
-        places.push(None)?;
-    }
-    assert!(rt; matches!(fault(1, places.as_slice()), Ok(())));
+    let mut places: Vec<Place> = vec![in rt.alloc(); None; 4096]?;
+    assert_eq!(rt; fault(1, places.as_slice()), Ok(()));
     places.push(None)?;
-    assert!(rt; matches!(fault(1, places.as_slice()), Err(Fault::Size)));
+    assert_eq!(rt; fault(1, places.as_slice()), Err(Fault::Size));
     Ok(())
 }
 
 #[test]
 fn leads_up_to_a_million_picoseconds(rt: HostRuntime) {
-    assert!(rt; matches!(fault(2, &[lead(0, 1, 1_000_000)]), Ok(())));
-    assert!(rt; matches!(fault(2, &[lead(0, 1, 1_000_001)]), Err(Fault::Delay(0))));
+    assert_eq!(rt; fault(2, &[lead(0, 1, 1_000_000)]), Ok(()));
+    assert_eq!(rt; fault(2, &[lead(0, 1, 1_000_001)]), Err(Fault::Delay(0)));
 }
 
 #[test]
 fn ends_in_order(rt: HostRuntime) {
-    assert!(rt; matches!(fault(3, &[lead(1, 2, 1)]), Ok(())));
-    assert!(rt; matches!(fault(3, &[lead(2, 2, 1)]), Err(Fault::Ends(0))));
-    assert!(rt; matches!(fault(3, &[lead(2, 1, 1)]), Err(Fault::Ends(0))));
-    assert!(rt; matches!(fault(3, &[lead(2, 3, 1)]), Err(Fault::Ends(0))));
+    assert_eq!(rt; fault(3, &[lead(1, 2, 1)]), Ok(()));
+    assert_eq!(rt; fault(3, &[lead(2, 2, 1)]), Err(Fault::Ends(0)));
+    assert_eq!(rt; fault(3, &[lead(2, 1, 1)]), Err(Fault::Ends(0)));
+    assert_eq!(rt; fault(3, &[lead(2, 3, 1)]), Err(Fault::Ends(0)));
 }
 
 #[test]
 fn the_first_bad_lead_decides(rt: HostRuntime) {
     let late = lead(0, 1, 1_000_001);
     let crossed = lead(1, 0, 1);
-    assert!(rt;
-        matches!(fault(4097, &[crossed]), Err(Fault::Size)),
-        "size before leads"
-    );
-    assert!(rt; matches!(fault(2, &[late, crossed]), Err(Fault::Delay(0))));
-    assert!(rt; matches!(fault(2, &[None, crossed, late]), Err(Fault::Ends(1))));
-    assert!(rt;
-        matches!(fault(2, &[lead(1, 0, 1_000_001)]), Err(Fault::Ends(0))),
-        "ends before delay"
-    );
+    assert_eq!(rt; fault(4097, &[crossed]), Err(Fault::Size), "size before leads");
+    assert_eq!(rt; fault(2, &[late, crossed]), Err(Fault::Delay(0)));
+    assert_eq!(rt; fault(2, &[None, crossed, late]), Err(Fault::Ends(1)));
+    assert_eq!(rt; fault(2, &[lead(1, 0, 1_000_001)]), Err(Fault::Ends(0)), "ends before delay");
 }
 
 #[test]
 fn a_fault_comes_before_a_short_table(rt: HostRuntime) {
     let mut row = [Picoseconds(9); 1];
     let mut table = Lengths::new(&mut row);
-    let crossed = [lead(1, 0, 1)];
-    let fine = [lead(0, 1, 1)];
-    let unsound = table.fill_to(&Table {
+    let crossed = Table {
         nodes: 2,
-        leads: &crossed,
-    });
-    assert!(rt; matches!(unsound, Err(FillError::Unsound(Fault::Ends(0)))));
-    assert!(rt;
-        matches!(
-            table.fill_to(&Table {
-                nodes: 2,
-                leads: &fine
-            }),
-            Err(FillError::Short)
-        )
-    );
-    assert!(rt;
-        matches!(
-            table.fill_from(&Table {
-                nodes: 2,
-                leads: &fine
-            }),
-            Err(FillError::Short)
-        )
-    );
+        leads: &[lead(1, 0, 1)],
+    };
+    let fine = Table {
+        nodes: 2,
+        leads: &[lead(0, 1, 1)],
+    };
+    assert_eq!(rt; table.fill_to(&crossed), Err(FillError::Unsound(Fault::Ends(0))));
+    assert_eq!(rt; table.fill_to(&fine), Err(FillError::Short));
+    assert_eq!(rt; table.fill_from(&fine), Err(FillError::Short));
     assert_eq!(rt; table.at(0).0, 9, "the table stays");
 }
 
 #[test]
 fn refusals_have_their_numbers(rt: HostRuntime) {
     assert_eq!(rt; Refusal::FileLength.number(), 1);
-    assert_eq!(rt; Fault::Size.refusal().number(), 3);
-    assert_eq!(rt; Fault::Ends(0).refusal().number(), 5);
-    assert_eq!(rt; Fault::Delay(0).refusal().number(), 6);
-    assert_eq!(rt; FillError::Short.refusal().number(), 10);
+    assert_eq!(rt; Refusal::from(Fault::Size).number(), 3);
+    assert_eq!(rt; Refusal::from(Fault::Ends(0)).number(), 5);
+    assert_eq!(rt; Refusal::from(Fault::Delay(0)).number(), 6);
+    assert_eq!(rt; Refusal::from(FillError::Short).number(), 10);
 }
 
 // A chain of leads of a million picoseconds each.

@@ -7,7 +7,7 @@ use delay::{Contact, Delay, Early, Picoseconds};
 use drawing::Counts;
 use lengths::table::Lengths;
 use marks::mark::Mark;
-use std::alloc::{AllocError, Global};
+use std::alloc::Global;
 use std::process::Abort;
 use std::test::Fail;
 use wiring::refusals::Refusal;
@@ -26,15 +26,6 @@ struct Choice {
     witness: [u16; 8],
 }
 
-// A length table of 8 entries.
-fn zeros<D: Delay>(heap: Global) -> Result<Vec<D>, AllocError> {
-    let mut row = Vec::new(heap);
-    for _entry in 0..8 {
-        row.push(D::zero())?;
-    }
-    Ok(row)
-}
-
 // Finds loads and then list and witness, on rows of so many entries.
 fn choose<D: Delay>(
     heap: Global,
@@ -47,8 +38,8 @@ fn choose<D: Delay>(
     requires witness { witness_room ≤ 8 }
 {
     let table = Table { nodes, leads };
-    let mut to_row = zeros::<D>(heap)?;
-    let mut from_row = zeros::<D>(heap)?;
+    let mut to_row = vec![in heap; D::zero(); 8]?;
+    let mut from_row = vec![in heap; D::zero(); 8]?;
     let mut to = Lengths::new(to_row.as_mut_slice());
     let mut from = Lengths::new(from_row.as_mut_slice());
     let mut scratch = [PAST; 8];
@@ -79,27 +70,20 @@ fn choose<D: Delay>(
 
 // Whether a row begins with these numbers, and is as before past them.
 fn begins(row: &[u16], numbers: &[u16]) -> bool {
-    for (index, entry) in row.iter().enumerate() {
-        if *entry != numbers.get(index).copied().unwrap_or(PAST) {
-            return false;
-        }
+    match row.strip_prefix(numbers) {
+        Some(rest) => rest.iter().all(|entry| *entry == PAST),
+        None => false,
     }
-    numbers.len() <= row.len()
 }
 
 // Whether a row begins with so many leads in ascending number, and is as before past them.
 fn ascends(row: &[u16], leads: usize) -> bool {
-    let mut least = 0;
-    for (index, entry) in row.iter().enumerate() {
-        if index < leads && (*entry < least || *entry >= PAST) {
-            return false;
-        }
-        if index >= leads && *entry != PAST {
-            return false;
-        }
-        least = entry.saturating_add(1);
-    }
-    leads <= row.len()
+    let Some((front, rest)) = row.split_at_checked(leads) else {
+        return false;
+    };
+    front.windows(2).all(|pair| pair[0] < pair[1])
+        && front.iter().all(|lead| *lead < PAST)
+        && rest.iter().all(|entry| *entry == PAST)
 }
 
 // Checks the best loads and the words of a wiring.
@@ -223,30 +207,21 @@ fn a_row_that_is_too_short_stays(rt: HostRuntime) -> Result<(), Fail> {
     let heap = rt.alloc();
     let leads = star::<Picoseconds>(lead(0, 2, 3, 0), lead(1, 2, 1, 0));
     let just = choose(heap, 5, &leads, 9, 3)?;
-    assert!(rt; matches!(just.answer, Ok(Counts { paths: 3, words: 9 })));
+    assert_eq!(rt; just.answer, Ok(Counts { paths: 3, words: 9 }));
     assert!(rt; begins(&just.words, &[2, 0, 2, 2, 0, 3, 2, 1, 2]));
     assert!(rt; ascends(&just.witness, 3));
     let words = choose(heap, 5, &leads, 8, 3)?;
-    assert!(rt; matches!(words.answer, Err(Refusal::Room)));
+    assert_eq!(rt; words.answer, Err(Refusal::Room));
     assert!(rt; begins(&words.words, &[]) && begins(&words.witness, &[]));
     let witness = choose(heap, 5, &leads, 9, 2)?;
-    assert!(rt; matches!(witness.answer, Err(Refusal::Room)));
+    assert_eq!(rt; witness.answer, Err(Refusal::Room));
     assert!(rt; begins(&witness.words, &[]) && begins(&witness.witness, &[]));
     Ok(())
 }
 
 // Whether a row has at most one of these leads.
 fn at_most_one(row: &[u16], leads: &[u16]) -> bool {
-    let mut found = false;
-    for entry in row {
-        if leads.contains(entry) {
-            if found {
-                return false;
-            }
-            found = true;
-        }
-    }
-    true
+    row.iter().filter(|entry| leads.contains(entry)).count() <= 1
 }
 
 // For each path, the leads that it is longest through: a witness has one of them at most.

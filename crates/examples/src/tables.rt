@@ -63,17 +63,12 @@ fn a_fault_comes_before_any_short_table(rt: HostRuntime) -> Result<(), Fail> {
     let from = Room { from: 1, ..enough };
     let loads = Room { loads: 0, ..enough };
     let marks = Room { marks: 2, ..enough };
-    assert!(rt;
-        matches!(
-            refused(&rt, &crossed, to)?,
-            Some(FillError::Unsound(Fault::Ends(0)))
-        )
-    );
-    assert!(rt; matches!(refused(&rt, &fine, to)?, Some(FillError::Short)));
-    assert!(rt; matches!(refused(&rt, &fine, from)?, Some(FillError::Short)));
-    assert!(rt; matches!(refused(&rt, &fine, loads)?, Some(FillError::Short)));
-    assert!(rt; matches!(refused(&rt, &fine, marks)?, Some(FillError::Short)));
-    assert!(rt; matches!(refused(&rt, &fine, enough)?, None));
+    assert_eq!(rt; refused(&rt, &crossed, to)?, Some(FillError::Unsound(Fault::Ends(0))));
+    assert_eq!(rt; refused(&rt, &fine, to)?, Some(FillError::Short));
+    assert_eq!(rt; refused(&rt, &fine, from)?, Some(FillError::Short));
+    assert_eq!(rt; refused(&rt, &fine, loads)?, Some(FillError::Short));
+    assert_eq!(rt; refused(&rt, &fine, marks)?, Some(FillError::Short));
+    assert_eq!(rt; refused(&rt, &fine, enough)?, None);
     Ok(())
 }
 
@@ -91,11 +86,11 @@ fn the_longest_chain_has_one_load(rt: HostRuntime) -> Result<(), Fail> {
     let mut loads = [0; 4095];
     let mut marks = vec![in rt.alloc(); Mark::VACANT; 8191]?;
     let total = best_loads(&table, &mut to, &mut from, &mut loads, marks.as_mut_slice());
-    assert!(rt; matches!(total, Ok(1)));
+    assert_eq!(rt; total, Ok(1));
     assert_eq!(rt; to.at(4095).0, 4_095_000_000);
     assert_eq!(rt; from.at(0).0, 4_095_000_000);
     let longest = longest_path(&table, &mut to, &mut from);
-    assert!(rt; matches!(longest, Some(Picoseconds(4_095_000_000))));
+    assert_eq!(rt; longest, Some(Picoseconds(4_095_000_000)));
     Ok(())
 }
 
@@ -113,7 +108,7 @@ fn the_loads_of_a_detour(rt: HostRuntime) {
     let mut loads = [9; 4];
     let mut marks = [Mark::VACANT; 6];
     let total = best_loads(&table, &mut to, &mut from, &mut loads, &mut marks);
-    assert!(rt; matches!(total, Ok(2)));
+    assert_eq!(rt; total, Ok(2));
     assert_eq!(rt; to.at(3).0, 9, "entries past the nodes stay");
     assert!(rt; loads == [1, 1, 1, 9], "entries past the places stay");
 }
@@ -138,7 +133,7 @@ fn the_loads_of_the_early_kind(rt: HostRuntime) {
     let mut loads = [0; 2];
     let mut marks = [Mark::VACANT; 4];
     let total = best_loads(&table, &mut to, &mut from, &mut loads, &mut marks);
-    assert!(rt; matches!(total, Ok(2)));
+    assert_eq!(rt; total, Ok(2));
     let longest = longest_path(&table, &mut to, &mut from);
-    assert!(rt; matches!(longest, Some(Early(Picoseconds(3)))));
+    assert_eq!(rt; longest, Some(Early(Picoseconds(3))));
 }

@@ -1,16 +1,9 @@
 //! Small wirings: the turned view, and questions once the lengths are there.
+use crate::limits::lead;
 use delay::{Early, Picoseconds};
 use lengths::asked::{classify, longest_through, work_out};
 use lengths::table::Lengths;
 use wiring::{Lead, Table, Turned, Wiring, turn_round};
-
-fn lead(tail: usize, head: usize, picoseconds: u32) -> Option<Lead<Picoseconds>> {
-    Some(Lead {
-        tail,
-        head,
-        delay: Picoseconds(picoseconds),
-    })
-}
 
 // Tail and head of what a wiring shows at a place.
 fn ends<W: Wiring<Picoseconds>>(w: &W, place: usize) -> Option<(usize, usize)> {
@@ -47,7 +40,7 @@ fn a_detour_is_not_fed(rt: HostRuntime) {
     let mut to = Lengths::new(&mut to_row);
     let mut from = Lengths::new(&mut from_row);
     let longest = work_out(&table, &mut to, &mut from);
-    assert!(rt; matches!(longest, Ok(Some(Picoseconds(3)))));
+    assert_eq!(rt; longest, Ok(Some(Picoseconds(3))));
     assert_eq!(rt;
         classify(&table, &mut to, &mut from, 0),
         Some((false, true))
@@ -58,12 +51,7 @@ fn a_detour_is_not_fed(rt: HostRuntime) {
     );
     assert_eq!(rt; classify(&table, &mut to, &mut from, 2), Some((true, true)));
     assert_eq!(rt; classify(&table, &mut to, &mut from, 3), None);
-    assert!(rt;
-        matches!(
-            longest_through(&table, &mut to, &mut from, 0),
-            Some(Picoseconds(2))
-        )
-    );
+    assert_eq!(rt; longest_through(&table, &mut to, &mut from, 0), Some(Picoseconds(2)));
     assert_eq!(rt; to.at(3).0, 9, "entries past the nodes stay");
 }
 
@@ -89,7 +77,7 @@ fn the_early_kind_takes_the_short_way(rt: HostRuntime) {
     let mut to = Lengths::new(&mut to_row);
     let mut from = Lengths::new(&mut from_row);
     let longest = work_out(&table, &mut to, &mut from);
-    assert!(rt; matches!(longest, Ok(Some(Early(Picoseconds(3))))));
+    assert_eq!(rt; longest, Ok(Some(Early(Picoseconds(3)))));
     assert_eq!(rt;
         classify(&table, &mut to, &mut from, 0),
         Some((false, false))
