@@ -10,7 +10,6 @@ use Rattle.marks.specs.Shown.{shown}
 use Rattle.marks.proofs.Following.{ahead_of, ahead_less}
 use Rattle.marks.specs.Links.{out_at, Earliest}
 use Rattle.listing.specs.declared.links.Links.{Links}
-use Rattle.listing.specs.Shows.{Whole}
 use Rattle.listing.specs.Looks.{AtArc, begins_left, FoundFrom}
 
 -- what is found from the place at on is what is found from the place from on
@@ -60,12 +59,12 @@ pub left_arc : (T : Table) (left : ℕ → ℕ) (v n k : ℕ) → Earliest (begi
 left_arc T left v n k h = (and_parts (T.arc k) (eqb (T.begin k) v) (and_parts (begins T v k) (ltb 0 (left k)) h.1).0).0
 
 -- where an arc ends, the node names the lowest arc that begins there
-module _ (l : Links) (W : Whole l) (k : ℕ) (arc : (shown l.arcs).arc k ≡ true) where
+module _ (l : Links) (k : ℕ) (arc : (shown l.arcs).arc k ≡ true) where
   pub end_within : (shown l.arcs).end k < length l.nodes.now
-  end_within = omega (arith, (l.arcs.sound.0 k arc).1, W.nodes)
+  end_within = omega (arith, (l.arcs.sound.0 k arc).1, l.whole.nodes)
 
   pub end_names : (o : Option ℕ) → o ≡ out_at l.nodes.now ((shown l.arcs).end k) → Earliest (begins (shown l.arcs) ((shown l.arcs).end k)) 0 o
-  end_names o e = subst (Earliest (begins (shown l.arcs) ((shown l.arcs).end k)) 0) (sym e) (W.linked.out ((shown l.arcs).end k) end_within)
+  end_names o e = subst (Earliest (begins (shown l.arcs) ((shown l.arcs).end k)) 0) (sym e) (l.whole.linked.out ((shown l.arcs).end k) end_within)
 
 -- a look that stands at the arc k and goes on by its link
 module _ (l : Links) (at : Option ℕ) (k : ℕ) (is : at ≡ Some k) (arc : AtArc (shown l.arcs) at) where
@@ -78,19 +77,18 @@ module _ (l : Links) (at : Option ℕ) (k : ℕ) (is : at ≡ Some k) (arc : AtA
   pub look_within : k < length a.marks.now
   look_within = arc_within a k there
 
-  module _ (W : Whole l) where
-    follows : Earliest (begins (shown a) ((shown a).begin k)) (k + 1) (out_at a.marks.now k)
-    follows = W.linked.next_out k (omega arith) there
+  follows : Earliest (begins (shown a) ((shown a).begin k)) (k + 1) (out_at a.marks.now k)
+  follows = l.whole.linked.next_out k (omega arith) there
 
-    -- it comes nearer to the end of the table
-    pub look_less : ahead_of (length a.marks.now) (out_at a.marks.now k) < ahead_of (length a.marks.now) at
-    look_less = subst (λ (o : Option ℕ). ahead_of (length a.marks.now) (out_at a.marks.now k) < ahead_of (length a.marks.now) o) (sym is)
-        (ahead_less (begins (shown a) ((shown a).begin k)) (length a.marks.now) k (out_at a.marks.now k) look_within follows)
+  -- it comes nearer to the end of the table
+  pub look_less : ahead_of (length a.marks.now) (out_at a.marks.now k) < ahead_of (length a.marks.now) at
+  look_less = subst (λ (o : Option ℕ). ahead_of (length a.marks.now) (out_at a.marks.now k) < ahead_of (length a.marks.now) o) (sym is)
+      (ahead_less (begins (shown a) ((shown a).begin k)) (length a.marks.now) k (out_at a.marks.now k) look_within follows)
 
-    -- and what it finds from there on is what is looked for
-    pub look_again : (left : ℕ → ℕ) (from : Option ℕ) → false ≡ ltb 0 (left k) → Leads (shown a) left from at →
-        AtArc (shown a) (out_at a.marks.now k) × Leads (shown a) left from (out_at a.marks.now k)
-    look_again left from z f = (
-      earliest_arc (shown a) ((shown a).begin k) (k + 1) (out_at a.marks.now k) follows,
-      λ o g. f o (subst (λ (x : Option ℕ). FoundFrom (shown a) left x o) (sym is) (found_next (shown a) left k (out_at a.marks.now k) z follows o g)),
-    )
+  -- and what it finds from there on is what is looked for
+  pub look_again : (left : ℕ → ℕ) (from : Option ℕ) → false ≡ ltb 0 (left k) → Leads (shown a) left from at →
+      AtArc (shown a) (out_at a.marks.now k) × Leads (shown a) left from (out_at a.marks.now k)
+  look_again left from z f = (
+    earliest_arc (shown a) ((shown a).begin k) (k + 1) (out_at a.marks.now k) follows,
+    λ o g. f o (subst (λ (x : Option ℕ). FoundFrom (shown a) left x o) (sym is) (found_next (shown a) left k (out_at a.marks.now k) z follows o g)),
+  )
