@@ -1,5 +1,5 @@
 -- The fields of marks after a write.
-use Rattle.std.proofs.Common.{◌≡◌, ℕ, ◌+◌, ◌<◌, Bool, true, false, cond, eqb, ◌≢◌, List, length, get_or, set, sym, ap, ◌∙◌, subst, ⊎_elim, arith, get_or-set_other, get_or-set_same, below_more}
+use Rattle.std.proofs.Common.{◌≡◌, ℕ, ◌+◌, ◌<◌, Bool, true, false, cond, eqb, ◌≢◌, List, length, is_some, get_or, set, sym, ap, ◌∙◌, subst, ⊎_elim, arith, get_or-set_other, get_or-set_same, below_more}
 use mathlib.Core.Path.{fun_ext}
 use Rattle.std.proofs.lemmas.Bool.{cases_eq, cases_lt, eq-eqb, ne_eqb, both_ways}
 use Rattle.std.proofs.lemmas.List.{get_or_past}
@@ -37,10 +37,10 @@ one_less R v h k l = ⊎_elim (λ e. ap (λ (b : Bool). cond b false (R k)) (eq-
 
 -- what holds of no mark within holds of none
 pub none_reached : (ns : List Mark) → ((v : ℕ) → v < length ns → reached_of ns v ≡ false) → (v : ℕ) → reached_of ns v ≡ false
-none_reached ns h v = ⊎_elim (λ l. h v l) (λ l. ap (λ (m : Mark). m.reached) (get_or_past ns v blank l)) (cases_lt v (length ns))
+none_reached ns h v = ⊎_elim (λ l. h v l) (λ l. ap (λ (m : Mark). is_some m.reached) (get_or_past ns v blank l)) (cases_lt v (length ns))
 
 pub reached_inside : (ns : List Mark) (v : ℕ) → reached_of ns v ≡ true → v < length ns
-reached_inside ns v e = ⊎_elim (λ l. l) (λ l. absurd (both_ways (reached_of ns v) (ap (λ (m : Mark). m.reached) (get_or_past ns v blank l)) e))
+reached_inside ns v e = ⊎_elim (λ l. l) (λ l. absurd (both_ways (reached_of ns v) (ap (λ (m : Mark). is_some m.reached) (get_or_past ns v blank l)) e))
     (cases_lt v (length ns))
 
 -- what the ghost field of a view says
@@ -49,7 +49,7 @@ sound ps n s t h =
     record {
       up = λ k a. (h.0 k a).0;
       within = λ k a. (h.0 k a).1;
-      past = λ k l. ap (λ (m : Mark). m.arc) (get_or_past ps k blank l);
+      past = λ k l. ap (λ (m : Mark). is_some m.arc) (get_or_past ps k blank l);
       apart = h.1;
       from_source = λ k a. (h.0 k a).2;
       to_sink = λ k a. (h.0 k a).3;

@@ -1,5 +1,5 @@
 -- The arcs of each node, linked place by place.
-use Rattle.std.proofs.Common.{◌≡◌, ℕ, ◌+◌, ◌<◌, ◌≤◌, Bool, true, false, eqb, List, length, Some, None, Option, sym, refl, ap, ◌∙◌, subst, ⊎_elim, arith}
+use Rattle.std.proofs.Common.{◌≡◌, ℕ, ◌+◌, ◌<◌, ◌≤◌, Bool, true, false, eqb, List, length, Some, None, Option, is_some, sym, refl, ap, ◌∙◌, subst, ⊎_elim, arith}
 use Rattle.std.proofs.lemmas.Bool.{cases_eq, eq-eqb, ne_eqb, and_from, and_left, and_right, both_ways}
 use Rattle.std.proofs.lemmas.List.{get_or_past}
 use Rattle.flow.specs.Trails.{put}
@@ -50,7 +50,7 @@ linked_none ps ns h =
     }
   where
     past : (k : ℕ) → length ps ≤ k → arc_at ps k ≡ false
-    past k l = ap (λ (m : Mark). m.arc) (get_or_past ps k blank l)
+    past k l = ap (λ (m : Mark). is_some m.arc) (get_or_past ps k blank l)
 
     none : (B : ℕ → ℕ) (v : ℕ) → Earliest (belongs (arc_at ps) B v) (length ps) None
     none B v k l = and_left (arc_at ps k) (eqb (B k) v) (past k l)

@@ -1,3 +1,5 @@
 pub mod Marks
 pub mod Shown
 pub mod Links
+pub mod Follow
+pub mod Left

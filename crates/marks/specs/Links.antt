@@ -1,17 +1,17 @@
 -- The arcs of each node, linked from the lowest place up.
-use Rattle.std.specs.Prelude.{◌≡◌, ℕ, ◌+◌, ◌<◌, ◌≤◌, Bool, true, false, cond, ◌&&◌, List, length, Some, None, Option, ◌==◌, slice_index_or}
+use Rattle.std.specs.Prelude.{◌≡◌, ℕ, ◌+◌, ◌<◌, ◌≤◌, Bool, true, false, cond, ◌&&◌, List, length, Some, None, Option, is_some, ◌==◌, slice_index_or}
 use Rattle.flow.specs.Trails.{put}
 use Rattle.marks.specs.declared.mark.Mark.{Mark}
-use Rattle.marks.specs.Marks.{blank, classes}
+use Rattle.marks.specs.Marks.{blank, begin_in, end_in, arc_of, classes}
 
 abbrev pub arc_at : List Mark → ℕ → Bool
-arc_at ps k = (slice_index_or ps k blank).arc
+arc_at ps k = is_some (arc_of ps k)
 
 abbrev pub begin_at : List Mark → ℕ → ℕ
-begin_at ps k = (slice_index_or ps k blank).begin
+begin_at ps k = begin_in (arc_of ps k)
 
 abbrev pub end_at : List Mark → ℕ → ℕ
-end_at ps k = (slice_index_or ps k blank).end
+end_at ps k = end_in (arc_of ps k)
 
 abbrev pub out_at : List Mark → ℕ → Option ℕ
 out_at ms i = (slice_index_or ms i blank).out

@@ -3,5 +3,6 @@
 #![tactic(auto)]
 
 pub mod arcs;
+pub mod follow;
 pub mod link;
 pub mod mark;

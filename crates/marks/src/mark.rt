@@ -1,20 +1,39 @@
 //! The entries of the mark table.
 
-/// One entry of the mark table. The first entries are for the nodes, the others for the places.
-#[derive(Clone, Copy)]
-pub struct Mark {
-    /// Of a place: it has an arc, from the node `begin` to the node `end`.
-    pub arc: bool,
+/// The arc at a place: from the node `begin` to the node `end`.
+#[derive(Clone, Copy, PartialEq, Eq, Debug)]
+pub struct Arc {
     pub begin: u16,
     pub end: u16,
-    /// Of a place: whether its lead drains, and whether it is fed.
+    /// Whether its lead drains, and whether it is fed.
     pub class: (bool, bool),
-    /// Of a node: a search has reached it, `depth` steps from its start, last by a step over `place`,
-    /// along the arc there or against it.
-    pub reached: bool,
-    pub depth: u16,
+}
+
+/// A step over the arc at a place, along it or against it.
+#[derive(Clone, Copy, PartialEq, Eq, Debug)]
+pub struct Step {
     pub place: u16,
     pub along: bool,
+}
+
+/// What a search leaves at a node that it reached.
+#[derive(Clone, Copy, PartialEq, Eq, Debug)]
+pub struct Reached {
+    /// How many steps the node is from the start of the search.
+    pub depth: u16,
+    /// The step by which the search came; none at its start.
+    pub by: Option<Step>,
+}
+
+/// One entry of the mark table. The first entries are for the nodes, the others for the places. The
+/// queue of a search and the links between arcs are kept here too, by number: there is no heap, and
+/// this table is all the memory that is lent.
+#[derive(Clone, Copy, PartialEq, Eq, Debug)]
+pub struct Mark {
+    /// Of a place: its arc, if it has one.
+    pub arc: Option<Arc>,
+    /// Of a node: how a search reached it, if it did.
+    pub reached: Option<Reached>,
     /// The node that a search reached as this entry's number says, counted from 0.
     pub queued: u16,
     /// Of a node: the lowest place with an arc that begins, or ends, there. Of a place: the next such
@@ -26,14 +45,8 @@ pub struct Mark {
 impl Mark {
     /// The mark of a vacant place, and of a node before anything is known of it.
     pub const VACANT: Mark = Mark {
-        arc: false,
-        begin: 0,
-        end: 0,
-        class: (false, false),
-        reached: false,
-        depth: 0,
-        place: 0,
-        along: false,
+        arc: None,
+        reached: None,
         queued: 0,
         out: None,
         into: None,
