@@ -1,2 +1,12 @@
 pub mod Known
 pub mod Rows
+pub mod Looking
+pub mod Walking
+pub mod CoreWalking
+pub mod Lowering
+pub mod Ready
+pub mod Showing
+pub mod Starts
+pub mod Weights
+pub mod Paths
+pub mod Lists

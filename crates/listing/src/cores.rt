@@ -17,8 +17,8 @@ impl Links<'_> {
         requires { (shown self.arcs).arc lead ≡ true }
         ensures { Earliest (begins_left (shown self.entry.arcs) (load_of left.now) ((shown self.entry.arcs).end lead)) 0 result }
     {
-        let node = self.arcs.marks[lead as usize].end as usize;
-        self.first_left(left, link_of(self.nodes, node, true))
+        let arc = self.arcs.marks[lead as usize].arc?;
+        self.first_left(left, link_of(self.nodes, arc.end as usize, true))
     }
 
     /// Writes a core from its start lead on, and answers its last lead.

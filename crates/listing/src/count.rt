@@ -6,6 +6,7 @@ ghost use Rattle.marks.specs.Shown.{shown};
 
 use crate::linked::LinkedWiring;
 use crate::links::is_outer;
+use crate::walk::Leads;
 use delay::Delay;
 use marks::arcs::Arcs;
 use wiring::Wiring;
@@ -37,7 +38,13 @@ impl<D: Delay, W: Wiring<D>> LinkedWiring<'_, D, W> {
         ensures { Extends (W.Wiring.net self.now.wiring.now) (types_in self.now.links) along place result }
     {
         if is_outer(self.links.arcs, place, along) {
-            self.leads(self.beyond(place, along), along).count()
+            let node = self.beyond(place, along);
+            let leads = Leads {
+                linked: self,
+                node,
+                along,
+            };
+            leads.count()
         } else {
             0
         }

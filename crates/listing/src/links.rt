@@ -6,6 +6,7 @@ ghost use Rattle.listing.specs.Whole.{Whole, Whole-prop};
 ghost use Rattle.listing.specs.Looks.{outer_arc, AtArc, FoundFrom};
 
 use marks::arcs::Arcs;
+use marks::follow::ArcsAt;
 use marks::mark::Mark;
 
 /// The arcs of a wiring, and the entries of its nodes, which name the first arcs of each.
@@ -22,11 +23,10 @@ pub(crate) fn is_outer(arcs: Arcs, place: usize, along: bool) -> bool
     requires { place < length arcs.marks.now }
     ensures { result ≡ outer_arc (shown arcs.entry) along place }
 {
-    let mark = arcs.marks[place];
-    if along {
-        mark.arc && mark.end as usize == arcs.sink
-    } else {
-        mark.arc && mark.begin as usize == arcs.source
+    match arcs.marks[place].arc {
+        Some(arc) if along => arc.end as usize == arcs.sink,
+        Some(arc) => arc.begin as usize == arcs.source,
+        None => false,
     }
 }
 
@@ -43,13 +43,6 @@ impl Links<'_> {
         requires { AtArc (shown self.arcs) from }
         ensures { FoundFrom (shown self.entry.arcs) (load_of left.now) from result }
     {
-        let mut next = from;
-        while let Some(place) = next {
-            if has_left(left, place as usize) {
-                return Some(place);
-            }
-            next = self.arcs.marks[place as usize].out;
-        }
-        None
+        ArcsAt::from_link(self.arcs.marks, from, true).find(|place| has_left(left, *place as usize))
     }
 }

@@ -17,7 +17,7 @@ impl<'a> WordRow<'a> {
     pub(crate) fn new(row: &'a mut [u16]) -> WordRow<'a>
         ensures lent { result.row.ghost_name ≡ row.entry.ghost_name }
         ensures written { written result ≡ [] }
-        ensures rest { unwritten result ≡ row.old }
+        ensures unwritten { unwritten result ≡ row.old }
     {
         WordRow { row, at: 0 }
     }

@@ -10,9 +10,9 @@ use wiring::Wiring;
 /// The leads that a walk meets from a node on.
 #[derive(Drop)]
 pub(crate) struct Leads<'a, D: Delay, W: Wiring<D>> {
-    linked: &'a LinkedWiring<'a, D, W>,
-    node: usize,
-    along: bool,
+    pub linked: &'a LinkedWiring<'a, D, W>,
+    pub node: usize,
+    pub along: bool,
     ghost reached: { Reached (W.Wiring.net linked.now.wiring.now) along node },
 }
 
@@ -36,7 +36,7 @@ impl<D: Delay, W: Wiring<D>> Iterator for Leads<'_, D, W> {
     }
 }
 
-impl<'a, D: Delay, W: Wiring<D>> LinkedWiring<'a, D, W> {
+impl<D: Delay, W: Wiring<D>> LinkedWiring<'_, D, W> {
     ghost use Rattle.std.specs.Prelude.{◌≡◌, if◌then◌else◌};
     ghost use Rattle.wiring.specs.Lists.{tail_at, head_node};
     ghost use Rattle.listing.specs.Shows.{types_in};
@@ -53,27 +53,18 @@ impl<'a, D: Delay, W: Wiring<D>> LinkedWiring<'a, D, W> {
         }
     }
 
-    /// The leads of the walk from the node v.
-    pub(crate) fn leads(&'a self, v: usize, along: bool) -> Leads<'a, D, W>
-        requires { Reached (W.Wiring.net self.now.wiring.now) along v }
-        ensures linked { result.linked.now ≡ self.now }
-        ensures node { result.node ≡ v }
-        ensures along { result.along ≡ along }
-    {
-        Leads {
-            linked: self,
-            node: v,
-            along,
-        }
-    }
-
     /// Writes the leads of the walk from the node v.
     pub(crate) fn write_walk(&self, row: &mut WordRow, v: usize, along: bool)
         requires reached { Reached (W.Wiring.net self.now.wiring.now) along v }
         requires fits { WalkFits (way (W.Wiring.net self.now.wiring.now) (types_in self.now.links) along) v row.old }
         ensures { WalkPut (way (W.Wiring.net self.now.wiring.now) (types_in self.now.links) along) (λ js. js) v row.old row.new }
     {
-        for lead in self.leads(v, along) {
+        let leads = Leads {
+            linked: self,
+            node: v,
+            along,
+        };
+        for lead in leads {
             row.push(lead);
         }
     }
