@@ -92,21 +92,22 @@ module _ {D : Type 0} {K : Kind D} (L : Laws K) {N : Net D} (l : Links) (H : Sho
       (subst (λ (T : Table). Earliest (at_node T along v) 0 (link_at l.nodes.now along v)) H.arcs (named along))
       (may_go H.sound (types_in l) along v r) (may_not H.sound (types_in l) along v r))
 
-  -- where none is named, it ends
-  pub step_ends : None ≡ link_at l.nodes.now along v → X.done v ≡ true
-  step_ends e = (subst (λ (js : List ℕ). Walk X v js walk.1) (goes_on None e) walk.2).0
+  module _ (o : Option ℕ) (named_is : o ≡ link_at l.nodes.now along v) where
+    -- where none is named, it ends
+    pub step_ends : o ≡ None → X.done v ≡ true
+    step_ends n = (subst (λ (js : List ℕ). Walk X v js walk.1) (subst (Meets walk.0) n (goes_on o named_is)) walk.2).0
 
-  -- and else the lead brings one to the next node
-  pub step_leads : (j x : ℕ) → Some j ≡ link_at l.nodes.now along v → x ≡ cond along (head_node N j) (tail_at N j) → Onward N (types_in l) along v j x
-  step_leads j x e i =
-      let q = goes_on (Some j) e in
-      let g = subst (λ (js : List ℕ). Walk X v js walk.1) q.1 walk.2 in
-      let is : X.next j ≡ x = next_is N (types_in l) along j ∙ sym i in
-      record {
-        step = (g.0, g.1, is);
-        reached = subst (Reached N along) is (reached_next N (types_in l) along v j g.1.holds);
-        fewer = subst (λ (w : ℕ). nodes_on N along w < nodes_on N along v) is (fewer_on H.sound (types_in l) along v j g.1.holds);
-      }
+    -- and else the lead brings one to the next node
+    pub step_leads : {j : ℕ} → o ≡ Some j → {x : ℕ} → x ≡ cond along (head_node N j) (tail_at N j) → Onward N (types_in l) along v j x
+    step_leads {j} s {x} i =
+        let q = subst (Meets walk.0) s (goes_on o named_is) in
+        let g = subst (λ (js : List ℕ). Walk X v js walk.1) q.1 walk.2 in
+        let is : X.next j ≡ x = next_is N (types_in l) along j ∙ sym i in
+        record {
+          step = (g.0, g.1, is);
+          reached = subst (Reached N along) is (reached_next N (types_in l) along v j g.1.holds);
+          fewer = subst (λ (w : ℕ). nodes_on N along w < nodes_on N along v) is (fewer_on H.sound (types_in l) along v j g.1.holds);
+        }
 
 -- beyond a lead with which a core ends or begins, a walk goes on; beyond any other, nothing
 module _ {D : Type 0} (N : Net D) (m : Marks) (along : Bool) (k : ℕ) where

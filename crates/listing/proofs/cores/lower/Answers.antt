@@ -21,7 +21,3 @@ bounds-left-lead-in-loop-lead c =
 pub loop-lead-preserved : goal.loop-lead-preserved
 loop-lead-preserved c =
     lower_step c.args.core.now c.loop-lead.lead-index (omega arith) (load_of c.args.left.now) c.loop-lead.left c.requires c.loop-lead.invariant
-
-pub returns : goal.returns
-returns c =
-    c.loop-lead.invariant ∙ ap (λ (xs : List ℕ). lowered (load_of c.args.left.now) xs) (take_all c.loop-lead.lead-index c.args.core.now (omega arith))

@@ -1,10 +1,13 @@
 use Rattle.std.proofs.Common.{rules, Some, None, length, ap, ◌∙◌, arith}
+use Rattle.wiring.specs.Lists.{Lowest, begins}
 use Rattle.marks.specs.Marks.{load_of}
 use Rattle.listing.specs.Shows.{types_in}
 use Rattle.listing.proofs.Known.{shows_known}
 use Rattle.listing.proofs.Ready.{list_drawn}
 use Rattle.listing.proofs.Starts.{seeks_all, seeks_arc, seeks_found, seeks_on}
 use Rattle.listing.proofs.Lists.{list_start, next_fits, list_few, list_less, list_turn, list_none, list_end}
+use Rattle.listing.proofs.linked.LinkedWiring.write_list.Given.{Over}
+use Rattle.listing.proofs.linked.LinkedWiring.write_list.Goals.{In-Some}
 use Rattle.listing.proofs.linked.LinkedWiring.write_list.Goals as goal
 
 pub loop-start-init : goal.loop-start-init
@@ -21,33 +24,38 @@ first_left-requires g c =
     let s = c.args.self.now in
     seeks_arc s.links (shows_known g.met.D.Delay.laws s.shows) (load_of c.loop-start.left) c.loop-start.from c.loop-start.invariant.1
 
+-- the start lead that is found is the lowest with something left
+low : (g : Over) (c : In-Some g) →
+    Lowest (begins (g.W.Wiring.net c.args.self.now.wiring.now) (types_in c.args.self.now.links) (load_of c.loop-start.left)) c.in-Some.start
+low g c =
+    let s = c.args.self.now in
+    seeks_found s.links (shows_known g.met.D.Delay.laws s.shows) (load_of c.loop-start.left) c.loop-start.from (Some c.in-Some.start)
+    c.loop-start.invariant.1 c.in-Some.ensures
+
 pub write_path-requires : goal.write_path-requires
 write_path-requires g c =
-    let s = c.args.self.now in let H = shows_known g.met.D.Delay.laws s.shows in
-    next_fits (g.W.Wiring.net s.wiring.now) (types_in s.links) c.loop-start.invariant.0 c.in-Some.start
-    (seeks_found s.links H (load_of c.loop-start.left) c.loop-start.from (Some c.in-Some.start) c.loop-start.invariant.1 c.in-Some.ensures)
+    let s = c.args.self.now in
+    next_fits (g.W.Wiring.net s.wiring.now) (types_in s.links) c.loop-start.invariant.0 c.in-Some.start (low g (goal.at.write_path-requires g c).In-Some)
 
 pub overflow_add-paths : goal.overflow_add-paths
 overflow_add-paths g c =
-    let s = c.args.self.now in let H = shows_known g.met.D.Delay.laws s.shows in let n = c.new-words.ensures in
+    let s = c.args.self.now in let n = c.new-words.ensures in
     let few = list_few (g.W.Wiring.net s.wiring.now) (types_in s.links) c.loop-start.invariant.0 c.in-Some.start
-    (seeks_found s.links H (load_of c.loop-start.left) c.loop-start.from (Some c.in-Some.start) c.loop-start.invariant.1 c.in-Some.ensures) in
+    (low g (goal.at.overflow_add-paths g c).In-Some) in
     omega (arith, ap length n.written, ap length n.unwritten)
 
 pub loop-start-smaller : goal.loop-start-smaller
 loop-start-smaller g c =
-    let s = c.args.self.now in let H = shows_known g.met.D.Delay.laws s.shows in
+    let s = c.args.self.now in
     list_less (g.W.Wiring.net s.wiring.now) (types_in s.links) c.loop-start.invariant.0 c.in-Some.start
-    (seeks_found s.links H (load_of c.loop-start.left) c.loop-start.from (Some c.in-Some.start) c.loop-start.invariant.1 c.in-Some.ensures)
-    c.write_path.ensures
+    (low g (goal.at.loop-start-smaller g c).In-Some) c.write_path.ensures
 
 pub loop-start-preserved : goal.loop-start-preserved
 loop-start-preserved g c =
     let s = c.args.self.now in let H = shows_known g.met.D.Delay.laws s.shows in
-    let left = load_of c.loop-start.left in let put = c.write_path.ensures in let seeks = c.loop-start.invariant.1 in
-    let low = seeks_found s.links H left c.loop-start.from (Some c.in-Some.start) seeks c.in-Some.ensures in (
-      list_turn (g.W.Wiring.net s.wiring.now) (types_in s.links) c.loop-start.invariant.0 c.in-Some.start low put,
-      seeks_on s.links H left (load_of c.write_path.new.left) put.core c.in-Some.start put.left_is low,
+    let put = c.write_path.ensures in let lowest = low g (goal.at.loop-start-preserved g c).In-Some in (
+      list_turn (g.W.Wiring.net s.wiring.now) (types_in s.links) c.loop-start.invariant.0 c.in-Some.start lowest put,
+      seeks_on s.links H (load_of c.loop-start.left) (load_of c.write_path.new.left) put.core c.in-Some.start put.left_is lowest,
     )
 
 pub returns-clause-list : goal.returns-clause-list
