@@ -29,19 +29,6 @@ module _ (T : Table) (left : ℕ → ℕ) where
     pub put : Wrote before r (start ∷ met)
     pub room : length rest ≤ length (unwritten r)
 
-  pub core_start : {start : ℕ} {before r : WordRow} → CoreFits T left start before → T.arc start ≡ true → Wrote before r (start ∷ []) →
-      CoreWay start before r start
-  core_start f arc put = record {
-    met = [];
-    rest = f.leads;
-    stop = f.stop;
-    come = refl;
-    goes = f.walk;
-    arc = arc;
-    put = put;
-    room = omega (arith, wrote_room put, f.room);
-  }
-
   module _ {start : ℕ} {before r : WordRow} {lead : ℕ} (W : CoreWay start before r lead) where
     -- before the end, the arc that is found is the lead that comes next
     core_meets : {b : Bool} → b ≡ ends T T.sink lead → b ≡ false → (o : Option ℕ) → Earliest (begins_left T left (T.end lead)) 0 o → Meets W.rest o
@@ -57,13 +44,7 @@ module _ (T : Table) (left : ℕ → ℕ) where
       more : Meets W.rest (Some j)
       more = core_meets is n (Some j) e
 
-      pub core_room : 0 < length (unwritten r)
-      core_room = omega (arith, ap length more.1, W.room)
-
       module _ {s : WordRow} (put : Wrote r s (j ∷ [])) where
-        pub core_less : length (unwritten s) < length (unwritten r)
-        core_less = omega (arith, wrote_room put, core_room)
-
         pub core_turn : CoreWay start before s j
         core_turn =
             let g : Walk X lead (j ∷ more.0) W.stop = subst (λ (xs : List ℕ). Walk X lead xs W.stop) more.1 W.goes in

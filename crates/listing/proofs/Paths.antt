@@ -101,11 +101,8 @@ module _ {D : Type 0} {K : Kind D} {N : Net D} (l : Links) (H : Shows K N l) (le
 
   -- behind a word that is written first
   module _ {r1 : WordRow} (word : Wrote r r1 (0 ∷ [])) {v : ℕ} (e : v ≡ tail_at N start) where
-    pub fits_behind : (has_lead_out N v ≡ true) × WalkFits (backwards N m) v r1
-    fits_behind = (
-      outer_reached H.sound m false start v first.starts e,
-      record { leads = R.behind; stop = R.input; walk = back v e; room = omega (arith, leads, wrote_room word, f.room) },
-    )
+    pub behind_reached : has_lead_out N v ≡ true
+    behind_reached = outer_reached H.sound m false start v first.starts e
 
     module _ {r2 : WordRow} (B : WalkPut (backwards N m) reverse v r1 r2) where
       one : Wrote r r2 (0 ∷ reverse R.behind)

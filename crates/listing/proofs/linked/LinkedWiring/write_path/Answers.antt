@@ -1,14 +1,13 @@
 use Rattle.std.proofs.Common.{arith}
 use Rattle.marks.specs.Marks.{load_of}
 use Rattle.listing.proofs.Known.{shows_known}
-use Rattle.listing.proofs.Paths.{start_arc, fits_behind, fits_core, fits_lower, fits_ahead, path_number, path_put}
+use Rattle.listing.proofs.Paths.{start_arc, behind_reached, fits_core, fits_lower, fits_ahead, path_number, path_put}
 use Rattle.listing.proofs.linked.LinkedWiring.write_path.Goals as goal
 
-pub write_behind-requires : goal.write_behind-requires
-write_behind-requires g c =
+pub write_behind-requires-clause-reached : goal.write_behind-requires-clause-reached
+write_behind-requires-clause-reached g c =
     let s = c.args.self.now in let H = shows_known g.met.D.Delay.laws s.shows in
-    let b = fits_behind s.links H (load_of c.args.left.now) c.args.start c.requires c.push.ensures c.beyond.ensures in
-    record { reached = b.0; fits = b.1 }
+    behind_reached s.links H (load_of c.args.left.now) c.args.start c.requires c.push.ensures c.beyond.ensures
 
 pub write_core-stop-requires : goal.write_core-stop-requires
 write_core-stop-requires g c =

@@ -1,6 +1,6 @@
 use Rattle.marks.specs.Marks.{load_of}
 use Rattle.marks.specs.Shown.{shown}
-use Rattle.listing.proofs.CoreWalking.{core_start, core_goes, core_turn, core_ends}
+use Rattle.listing.proofs.CoreWalking.{core_goes, core_turn, core_ends}
 use Rattle.listing.proofs.links.Links.write_core.Goals as goal
 
 pub unreachable-requires : goal.unreachable-requires
