@@ -3,6 +3,8 @@ ghost use Rattle.std.specs.Prelude.{◌≡◌, length};
 ghost use Rattle.flow.specs.Loads.{total};
 ghost use Rattle.marks.specs.Marks.{load_of};
 ghost use Rattle.marks.specs.Shown.{shown};
+ghost use Rattle.listing.specs.Shows.{types_in};
+ghost use Rattle.listing.specs.Costs.{Extends, Cost, WordsNumber};
 
 use crate::linked::LinkedWiring;
 use crate::links::is_outer;
@@ -26,15 +28,9 @@ pub fn count_paths(arcs: Arcs, left: &[u16]) -> usize
 }
 
 impl<D: Delay, W: Wiring<D>> LinkedWiring<'_, D, W> {
-    ghost use Rattle.std.specs.Prelude.{◌≡◌, ◌<◌, length};
-    ghost use Rattle.marks.specs.Marks.{load_of};
-    ghost use Rattle.listing.specs.Shows.{types_in};
-    ghost use Rattle.listing.specs.Costs.{Extends, Cost, WordsNumber};
-
     /// The number of leads that extend a core beyond the lead at a place: after it, if the core ends
     /// with it, or against the leads before it, if the core begins with it.
     fn extension(&self, place: usize, along: bool) -> usize
-        requires { place < length self.now.links.arcs.marks.now }
         ensures { Extends (W.Wiring.net self.now.wiring.now) (types_in self.now.links) along place result }
     {
         if is_outer(self.links.arcs, place, along) {
@@ -53,10 +49,10 @@ impl<D: Delay, W: Wiring<D>> LinkedWiring<'_, D, W> {
     /// The number of words that each unit of the load at a place adds to the list: one for the lead and
     /// one for each that extends the core beyond it; at a start lead also the number of the path's leads.
     fn cost(&self, place: usize) -> usize
-        requires { place < length self.now.links.arcs.marks.now }
         ensures { Cost (W.Wiring.net self.now.wiring.now) (types_in self.now.links) place result }
     {
-        let own = if is_outer(self.links.arcs, place, false) { 2 } else { 1 };
+        let starts = is_outer(self.links.arcs, place, false);
+        let own = if starts { 2 } else { 1 };
         own + self.extension(place, false) + self.extension(place, true)
     }
 

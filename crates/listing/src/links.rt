@@ -1,5 +1,5 @@
 //! The arcs of a wiring with their links, and what is looked up along these.
-ghost use Rattle.std.specs.Prelude.{◌≡◌, ◌<◌, length, nat_lt};
+ghost use Rattle.std.specs.Prelude.{◌≡◌, nat_lt};
 ghost use Rattle.marks.specs.Marks.{load_of};
 ghost use Rattle.marks.specs.Shown.{shown};
 ghost use Rattle.listing.specs.Whole.{Whole, Whole-prop};
@@ -20,10 +20,9 @@ pub struct Links<'a> {
 /// Whether the place has an end lead, which ends at the sink or, against the leads, a start lead,
 /// which begins at the source.
 pub(crate) fn is_outer(arcs: Arcs, place: usize, along: bool) -> bool
-    requires { place < length arcs.marks.now }
     ensures { result ≡ outer_arc (shown arcs.entry) along place }
 {
-    match arcs.marks[place].arc {
+    match arcs.marks.get(place).and_then(|mark| mark.arc) {
         Some(arc) if along => arc.end as usize == arcs.sink,
         Some(arc) => arc.begin as usize == arcs.source,
         None => false,

@@ -1,4 +1,11 @@
 //! The whole list.
+ghost use Rattle.std.specs.Prelude.{◌≡◌, ℕ, ◌≤◌, List, length};
+ghost use Rattle.wiring.specs.Loads.{Loads};
+ghost use Rattle.wiring.specs.Lists.{Draws, words as words_of};
+ghost use Rattle.marks.specs.Marks.{load_of};
+ghost use Rattle.listing.specs.Shows.{types_in};
+ghost use Rattle.listing.specs.Lists.{ListPut};
+
 use crate::linked::LinkedWiring;
 use crate::row::WordRow;
 use delay::Delay;
@@ -7,13 +14,6 @@ use marks::link::link_of;
 use wiring::Wiring;
 
 impl<D: Delay, W: Wiring<D>> LinkedWiring<'_, D, W> {
-    ghost use Rattle.std.specs.Prelude.{◌≡◌, ℕ, ◌≤◌, List, length};
-    ghost use Rattle.wiring.specs.Loads.{Loads};
-    ghost use Rattle.wiring.specs.Lists.{Draws, words as words_of};
-    ghost use Rattle.marks.specs.Marks.{load_of};
-    ghost use Rattle.listing.specs.Shows.{types_in};
-    ghost use Rattle.listing.specs.Lists.{ListPut};
-
     /// Writes the list that is drawn from what is left at the start of the row, and answers its number
     /// of paths and of words. Nothing is left then.
     pub fn write_list(&self, left: &mut [u16], row: &mut [u16]) -> Counts

@@ -1,4 +1,12 @@
 //! One path: its core, and what extends it on both sides.
+ghost use Rattle.std.specs.Prelude.{◌≡◌, true, reverse};
+ghost use Rattle.wiring.specs.Net.{has_lead_out};
+ghost use Rattle.wiring.specs.Lists.{backwards};
+ghost use Rattle.marks.specs.Marks.{load_of};
+ghost use Rattle.listing.specs.Shows.{types_in};
+ghost use Rattle.listing.specs.Walks.{WalkFits, WalkPut};
+ghost use Rattle.listing.specs.Paths.{PathFits, PathPut};
+
 use crate::cores::lower;
 use crate::linked::LinkedWiring;
 use crate::row::WordRow;
@@ -6,14 +14,6 @@ use delay::Delay;
 use wiring::Wiring;
 
 impl<D: Delay, W: Wiring<D>> LinkedWiring<'_, D, W> {
-    ghost use Rattle.std.specs.Prelude.{◌≡◌, true, reverse};
-    ghost use Rattle.wiring.specs.Net.{has_lead_out};
-    ghost use Rattle.wiring.specs.Lists.{backwards};
-    ghost use Rattle.marks.specs.Marks.{load_of};
-    ghost use Rattle.listing.specs.Shows.{types_in};
-    ghost use Rattle.listing.specs.Walks.{WalkFits, WalkPut};
-    ghost use Rattle.listing.specs.Paths.{PathFits, PathPut};
-
     /// Writes the leads that lie backwards from the node v in the order of a path.
     fn write_behind(&self, row: &mut WordRow, v: usize)
         requires reached { has_lead_out (W.Wiring.net self.now.wiring.now) v ≡ true }

@@ -1,5 +1,9 @@
 //! Walks from node to node by lowest leads, forwards until an output or backwards until an input.
-ghost use Rattle.listing.specs.Walks.{Reached};
+ghost use Rattle.std.specs.Prelude.{◌≡◌, if◌then◌else◌};
+ghost use Rattle.std.specs.Iterator.{at_most};
+ghost use Rattle.wiring.specs.Lists.{tail_at, head_node};
+ghost use Rattle.listing.specs.Walks.{Reached, way, nodes_on, StepTo, WalkFits, WalkPut};
+ghost use Rattle.listing.specs.Shows.{types_in};
 
 use crate::linked::LinkedWiring;
 use crate::row::WordRow;
@@ -17,11 +21,6 @@ pub(crate) struct Leads<'a, D: Delay, W: Wiring<D>> {
 }
 
 impl<D: Delay, W: Wiring<D>> Iterator for Leads<'_, D, W> {
-    ghost use Rattle.std.specs.Prelude.{◌≡◌};
-    ghost use Rattle.std.specs.Iterator.{at_most};
-    ghost use Rattle.listing.specs.Shows.{types_in};
-    ghost use Rattle.listing.specs.Walks.{way, nodes_on, StepTo};
-
     type Item = u16;
 
     ghost next_gives = { λ s r t. StepTo (way (W.Wiring.net s.linked.now.wiring.now) (types_in s.linked.now.links) s.along) s.node r t.node × (t.linked.now ≡ s.linked.now) × (t.along ≡ s.along) };
@@ -37,11 +36,6 @@ impl<D: Delay, W: Wiring<D>> Iterator for Leads<'_, D, W> {
 }
 
 impl<D: Delay, W: Wiring<D>> LinkedWiring<'_, D, W> {
-    ghost use Rattle.std.specs.Prelude.{◌≡◌, if◌then◌else◌};
-    ghost use Rattle.wiring.specs.Lists.{tail_at, head_node};
-    ghost use Rattle.listing.specs.Shows.{types_in};
-    ghost use Rattle.listing.specs.Walks.{way, WalkFits, WalkPut};
-
     /// The node to which a lead brings one: its head or, against the lead, its tail.
     pub(crate) fn beyond(&self, lead: usize, along: bool) -> usize
         ensures { result ≡ (if along then head_node (W.Wiring.net self.now.wiring.now) lead else tail_at (W.Wiring.net self.now.wiring.now) lead) }

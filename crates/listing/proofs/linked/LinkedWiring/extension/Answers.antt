@@ -10,8 +10,10 @@ use Rattle.listing.proofs.linked.LinkedWiring.extension.Goals as goal
 pub invariant_of-leads : goal.invariant_of-leads
 invariant_of-leads g c =
     let l = c.args.self.now.links in let H = shows_known g.met.D.Delay.laws c.args.self.now.shows in
-    record { reached = outer_reached H.sound (types_in l) c.args.along c.args.place c.beyond-node.result
-    (outer_told l H c.args.along c.args.place c.if-is_outer.ensures) c.beyond-node.ensures }
+    record {
+      reached = outer_reached H.sound (types_in l) c.args.along c.args.place c.beyond-node.result
+          (outer_told l H c.args.along c.args.place c.if-is_outer.ensures) c.beyond-node.ensures;
+    }
 
 pub count-requires-clause-fits : goal.count-requires-clause-fits
 count-requires-clause-fits g c =
