@@ -1,6 +1,6 @@
 -- What the links tell of the leads by which a walk goes on.
 use Rattle.std.proofs.Common.{◌≡◌, ℕ, ◌<◌, Bool, true, false, cond, not, ◌&&◌, eqb, List, length, Some, None, Option, sym, refl, ap, ◌∙◌, subst, ⊎_elim, arith}
-use Rattle.std.proofs.lemmas.Bool.{cases_Bool, both_ways, and_parts, and_from, and_cases, and_left, and_right, not-false, eqb-true}
+use Rattle.std.proofs.lemmas.Bool.{both_ways, false_from_ne_true, and_parts, and_from, and_cases, and_left, and_right, not-false, eqb-true}
 use Rattle.delay.specs.Kind.{Kind, Laws}
 use Rattle.wiring.specs.declared.Lead.{Lead}
 use Rattle.wiring.specs.Net.{Net, Holds, Sound, is_lead, has_lead_in, has_lead_out}
@@ -11,6 +11,7 @@ use Rattle.wiring.proofs.Types.{lead_at}
 use Rattle.flow.specs.Table.{Table, begins, ends}
 use Rattle.marks.specs.Links.{link_at, Earliest}
 use Rattle.marks.specs.Shown.{shown}
+use Rattle.marks.proofs.Following.{linked_first}
 use Rattle.cover.specs.Arcs.{highest_node, arc_table}
 use Rattle.cover.proofs.Arcs.{begins_draining, ends_fed, none_begins, none_ends, starts_begin, ends_end}
 use Rattle.drawing.proofs.Parts.{out_parts, in_parts, tail_of, head_of}
@@ -24,11 +25,7 @@ use Rattle.listing.proofs.Ready.{fewer_on, walk_exists}
 
 -- the arc at k begins at v or, the other way, it ends there
 abbrev at_node : Table → Bool → ℕ → ℕ → Bool
-at_node T true = begins T
-at_node T false = ends T
-
-never : (b : Bool) → (b ≡ true → ⊥) → b ≡ false
-never b n = ⊎_elim (λ e. absurd (n e)) (λ e. e) (cases_Bool b)
+at_node T along v k = T.arc k && eqb (cond along (T.begin k) (T.end k)) v
 
 -- where a node has leads on the one side, and one is not done there, it has leads on the other side too
 more_sides : (a b : Bool) → a ≡ true → (a && not b) ≡ false → b ≡ true
@@ -41,11 +38,11 @@ module _ {D : Type 0} {K : Kind D} {N : Net D} (S : Sound K N) (m : Marks) where
   may_go false v r d k = ends_fed S m v (and_from (has_lead_in N v) (has_lead_out N v) (more_sides (has_lead_out N v) (has_lead_in N v) r d) r) k
 
   may_not : (along : Bool) (v : ℕ) → Reached N along v → (way N m along).done v ≡ true → (k : ℕ) → at_node (arc_table N m) along v k ≡ false
-  may_not true v r d k = never (begins (arc_table N m) v k) (λ e.
+  may_not true v r d k = false_from_ne_true (begins (arc_table N m) v k) (λ e.
       let p = and_parts ((arc_table N m).arc k) (eqb ((arc_table N m).begin k) v) e in let i = lead_in N v r in
       none_begins S m v (and_right (has_lead_in N v) (has_lead_out N v) (output_parts N v d).1) (λ z. omega (arith, i.ends, S.upwards i.place i.lead i.holds))
       k p.0 (eqb-true ((arc_table N m).begin k) v p.1))
-  may_not false v r d k = never (ends (arc_table N m) v k) (λ e.
+  may_not false v r d k = false_from_ne_true (ends (arc_table N m) v k) (λ e.
       let p = and_parts ((arc_table N m).arc k) (eqb ((arc_table N m).end k) v) e in let i = lead_out N v r in
       none_ends S m v (and_left (has_lead_in N v) (has_lead_out N v) (input_parts N v d).1)
       (λ z. omega (arith, i.begins, S.upwards i.place i.lead i.holds, S.inside i.place i.lead i.holds))
@@ -78,10 +75,6 @@ module _ {D : Type 0} {K : Kind D} (L : Laws K) {N : Net D} (l : Links) (H : Sho
   pub node_within : v < length l.nodes.now
   node_within = omega (arith, inside H.sound (types_in l) along v r, l.whole.nodes, ap (λ (T : Table). T.nodes) H.arcs)
 
-  named : (b : Bool) → Earliest (at_node (shown l.arcs) b v) 0 (link_at l.nodes.now b v)
-  named true = l.whole.linked.out v node_within
-  named false = l.whole.linked.into v node_within
-
   walk : (js : List ℕ) × (w : ℕ) × Walk (way N (types_in l) along) v js w
   walk = walk_exists L H.sound H.types along v r
 
@@ -89,7 +82,8 @@ module _ {D : Type 0} {K : Kind D} (L : Laws K) {N : Net D} (l : Links) (H : Sho
   goes_on : (o : Option ℕ) → o ≡ link_at l.nodes.now along v → Meets walk.0 o
   goes_on o e = subst (Meets walk.0) (sym e) (
       meets X v walk.0 walk.1 (at_node (arc_table N (types_in l)) along v) (link_at l.nodes.now along v) walk.2
-      (subst (λ (T : Table). Earliest (at_node T along v) 0 (link_at l.nodes.now along v)) H.arcs (named along))
+      (subst (λ (T : Table). Earliest (at_node T along v) 0 (link_at l.nodes.now along v)) H.arcs
+      (linked_first l.arcs.marks.now l.nodes.now l.whole.linked along v node_within))
       (may_go H.sound (types_in l) along v r) (may_not H.sound (types_in l) along v r))
 
   module _ (o : Option ℕ) (named_is : o ≡ link_at l.nodes.now along v) where
