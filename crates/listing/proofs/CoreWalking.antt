@@ -1,5 +1,5 @@
 -- The walk of a core under way.
-use Rattle.std.proofs.Common.{◌≡◌, ℕ, ◌<◌, ◌≤◌, Bool, true, false, List, [], ◌∷◌, ◌++◌, length, Some, None, Option, sym, refl, ap, ◌∙◌, subst, arith}
+use Rattle.std.proofs.Common.{◌≡◌, ℕ, ◌≤◌, Bool, true, false, List, [], ◌∷◌, ◌++◌, length, Some, None, Option, sym, refl, ap, ◌∙◌, subst, arith}
 use Rattle.std.proofs.lemmas.Bool.{both_ways}
 use Rattle.wiring.specs.Lists.{Walker, Walk}
 use Rattle.flow.specs.Table.{Table, ends}
@@ -9,7 +9,7 @@ use Rattle.drawing.proofs.Progress.{walk_step, walk_done}
 use Rattle.listing.specs.declared.row.WordRow.{WordRow}
 use Rattle.listing.specs.Row.{unwritten, Wrote}
 use Rattle.listing.specs.Looks.{begins_left}
-use Rattle.listing.specs.CoreWalks.{by_arcs, CoreFits, CorePut}
+use Rattle.listing.specs.CoreWalks.{by_arcs, CorePut}
 use Rattle.listing.proofs.Rows.{wrote_more, wrote_room}
 use Rattle.listing.proofs.Looking.{left_arc}
 use Rattle.listing.proofs.Walking.{Meets, meets}

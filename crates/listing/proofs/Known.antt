@@ -1,20 +1,16 @@
 -- What links show can be had whole.
-use Rattle.std.proofs.Common.{◌≡◌, ℕ, Bool, sym, ap, subst}
+use Rattle.std.proofs.Common.{◌≡◌, ℕ, ap, subst}
 use Rattle.std.proofs.Math.Logic.{∥∥₁_elim}
 use Rattle.std.proofs.Math.Nat.{ℕ_set}
 use Rattle.std.proofs.Math.Bool.{Bool-set}
-use Rattle.std.specs.Coded.{Π_prop, →_prop, le_prop}
+use Rattle.std.specs.Coded.{le_prop}
 use mathlib.Core.Path.{fun_ext}
 use Rattle.delay.specs.Kind.{Kind, Laws}
-use Rattle.wiring.specs.declared.Lead.{Lead}
-use Rattle.wiring.specs.Net.{Net, Holds, Sound}
-use Rattle.wiring.specs.Lengths.{Marks, Types, marks_of}
+use Rattle.wiring.specs.Net.{Net, Sound}
+use Rattle.wiring.specs.Lengths.{Marks, Types}
 use Rattle.wiring.proofs.Types.{types_by_tables, types_same}
-use Rattle.lengths.specs.Worked.{worked_to, worked_from}
 use Rattle.lengths.proofs.Worked.{worked_tables}
 use Rattle.flow.specs.Table.{Table}
-use Rattle.marks.specs.Shown.{shown}
-use Rattle.cover.specs.Arcs.{arc_table}
 use Rattle.listing.specs.declared.links.Links.{Links}
 use Rattle.listing.specs.Shows.{types_in, Shows}
 

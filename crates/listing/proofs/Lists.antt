@@ -1,5 +1,5 @@
 -- A list under way: the paths drawn stand in the row, and the rest is still to come.
-use Rattle.std.proofs.Common.{◌≡◌, ℕ, ◌+◌, ◌<◌, ◌≤◌, false, List, [], ◌∷◌, ◌++◌, length, drop, sym, refl, ap, ◌∙◌, subst, inl, inr, append_assoc, append-nil, zero-add, arith}
+use Rattle.std.proofs.Common.{◌≡◌, ℕ, ◌+◌, ◌<◌, ◌≤◌, false, List, [], ◌∷◌, ◌++◌, length, drop, sym, refl, ap, ◌∙◌, subst, inl, inr, append_assoc, append-nil, arith}
 use Rattle.std.proofs.lemmas.Bool.{both_ways}
 use Rattle.std.proofs.lemmas.List.{length-append, length_push}
 use Rattle.wiring.specs.Net.{Net}
@@ -14,7 +14,7 @@ use Rattle.listing.specs.declared.row.WordRow.{WordRow}
 use Rattle.listing.specs.Row.{written, unwritten, Wrote}
 use Rattle.listing.specs.Paths.{PathFits, PathPut}
 use Rattle.listing.specs.Lists.{ListPut}
-use Rattle.listing.proofs.Rows.{row_parts, wrote_none, wrote_room, wrote_length, wrote_more}
+use Rattle.listing.proofs.Rows.{row_parts, wrote_none, wrote_room, wrote_more}
 
 words_push : (ps : List (List ℕ)) (p : List ℕ) → words (ps ++ (p ∷ [])) ≡ words ps ++ (length p ∷ p)
 words_push [] p = ap (λ (r : List ℕ). length p ∷ r) (append-nil p)

@@ -1,5 +1,5 @@
 -- The number of words as a sum over the places.
-use Rattle.std.proofs.Common.{◌≡◌, ℕ, suc, ◌+◌, ◌*◌, ◌<◌, ◌≤◌, Bool, true, false, cond, eqb, List, [], ◌∷◌, ◌++◌, reverse, length, sym, refl, ap, ◌∙◌, subst, inl, inr, ⊎_elim, add-mul, mul-le-mul, one-mul, zero-mul, arith}
+use Rattle.std.proofs.Common.{◌≡◌, ℕ, suc, ◌+◌, ◌*◌, ◌<◌, ◌≤◌, cond, eqb, List, [], ◌∷◌, ◌++◌, reverse, length, sym, refl, ap, ◌∙◌, subst, inl, inr, ⊎_elim, add-mul, mul-le-mul, one-mul, zero-mul, arith}
 use Rattle.std.proofs.lemmas.List.{length-append, length-reverse}
 use Rattle.std.proofs.lemmas.Bool.{cases_lt, cond-true, cond-false, cond_both}
 use Rattle.delay.specs.Kind.{Kind}
@@ -7,7 +7,7 @@ use Rattle.wiring.specs.declared.Lead.{Lead}
 use Rattle.wiring.specs.Net.{Net, Holds, Sound}
 use Rattle.wiring.specs.Paths.{On}
 use Rattle.wiring.specs.Lengths.{Marks}
-use Rattle.wiring.specs.Loads.{is_start_lead, sum_below, sum_where}
+use Rattle.wiring.specs.Loads.{is_start_lead, sum_below}
 use Rattle.wiring.specs.Lists.{count_on, lowered, tail_at, head_node, Walk, onwards, backwards, forwards, Drawn, Draws, words}
 use Rattle.wiring.proofs.Ends.{below_places}
 use Rattle.wiring.proofs.Types.{lead_at}

@@ -1,6 +1,4 @@
-use Rattle.std.proofs.Common.{ℕ, List, ap, ◌∙◌, arith}
-use Rattle.std.proofs.lemmas.List.{take_all}
-use Rattle.wiring.specs.Lists.{lowered}
+use Rattle.std.proofs.Common.{arith}
 use Rattle.marks.specs.Marks.{load_of}
 use Rattle.listing.proofs.Lowering.{lower_some, lower_within, lower_step}
 use Rattle.listing.proofs.cores.lower.Goals as goal

@@ -1,4 +1,4 @@
-use Rattle.std.proofs.Common.{rules, true, ℕ, ltb, Option, sym, ◌∙◌, subst}
+use Rattle.std.proofs.Common.{rules, true, ltb, sym, ◌∙◌, subst}
 use Rattle.std.proofs.lemmas.Iterator.Adapters.{option_map_id}
 use Rattle.std.proofs.lemmas.Iterator.Consumers.{YieldsList-from_first}
 use Rattle.std.proofs.lemmas.Iterator.Search.{find_from_yields_List}
