@@ -1,11 +1,12 @@
-pub mod Looking
+pub mod Known
 pub mod Rows
+pub mod Looking
 pub mod Walking
-pub mod Showing
 pub mod CoreWalking
 pub mod Lowering
-pub mod Paths
 pub mod Ready
+pub mod Showing
 pub mod Starts
-pub mod Lists
 pub mod Weights
+pub mod Paths
+pub mod Lists

@@ -1,5 +1,5 @@
 -- A drawn path, put together from its parts in the row.
-use Rattle.std.proofs.Common.{◌≡◌, ℕ, ◌+◌, ◌-◌, ◌≤◌, true, false, ◌&&◌, ltb, List, [], ◌∷◌, ◌++◌, reverse, length, take, drop, set, sym, ap, ◌∙◌, subst, ⊎_elim, append_assoc, arith}
+use Rattle.std.proofs.Common.{◌≡◌, ℕ, ◌-◌, ◌+◌, ◌≤◌, true, false, ◌&&◌, ltb, List, [], ◌∷◌, ◌++◌, reverse, length, drop, set, sym, ap, ◌∙◌, subst, ⊎_elim, append_assoc, arith}
 use Rattle.std.proofs.lemmas.Bool.{both_ways, and_from}
 use Rattle.std.proofs.lemmas.List.{length-append, length-reverse}
 use Rattle.delay.specs.Kind.{Kind}
@@ -19,11 +19,12 @@ use Rattle.drawing.proofs.Left.{core_fits}
 use Rattle.listing.specs.declared.links.Links.{Links}
 use Rattle.listing.specs.Looks.{begins_left}
 use Rattle.listing.specs.Shows.{types_in, Shows}
-use Rattle.listing.specs.Row.{over}
+use Rattle.listing.specs.declared.row.WordRow.{WordRow}
+use Rattle.listing.specs.Row.{written, unwritten, Wrote, Rewrote}
 use Rattle.listing.specs.Walks.{WalkFits, WalkPut}
-use Rattle.listing.specs.CoreWalks.{by_arcs, CorePut}
+use Rattle.listing.specs.CoreWalks.{by_arcs, CoreFits, CorePut}
 use Rattle.listing.specs.Paths.{PathFits, PathPut}
-use Rattle.listing.proofs.Rows.{over_over, over_part, over_first}
+use Rattle.listing.proofs.Rows.{wrote_room, wrote_length, wrote_more, wrote_part, wrote_first}
 use Rattle.listing.proofs.Showing.{outer_reached}
 
 -- a walk ends where it is done
@@ -57,19 +58,11 @@ module _ {D : Type 0} {K : Kind D} {N : Net D} (S : Sound K N) (m : Marks) (left
       )
 
 -- what a walk has written is what the one walk meets
-module _ (X : Walker) (told : List ℕ → List ℕ) {v at : ℕ} {row after : List ℕ} {end : ℕ} (W : WalkPut X told v at row after end)
-    (js : List ℕ) (w : ℕ) (g : Walk X v js w) where
-  put_row : after ≡ over row at (told js)
-  put_row = W.row_is ∙ ap (λ (xs : List ℕ). over row at (told xs)) (walk_one X v W.leads js W.walk g).0
+walk_put : (X : Walker) (told : List ℕ → List ℕ) {v : ℕ} {r s : WordRow} → WalkPut X told v r s → (js : List ℕ) (w : ℕ) → Walk X v js w → Wrote r s (told js)
+walk_put X told {v} {r} {s} W js w g = subst (λ (xs : List ℕ). Wrote r s (told xs)) (walk_one X v W.leads js W.walk g).0 W.put
 
-  put_end : end ≡ at + length (told js)
-  put_end = W.end_is ∙ ap (λ (xs : List ℕ). at + length (told xs)) (walk_one X v W.leads js W.walk g).0
-
-  put_stop : W.stop ≡ w
-  put_stop = (walk_one X v W.leads js W.walk g).1
-
-module _ {D : Type 0} {K : Kind D} {N : Net D} (l : Links) (H : Shows K N l) (left : ℕ → ℕ) (start at : ℕ) (row : List ℕ)
-    (f : PathFits N (types_in l) left start at row) where
+module _ {D : Type 0} {K : Kind D} {N : Net D} (l : Links) (H : Shows K N l) (left : ℕ → ℕ) (start : ℕ) {r : WordRow}
+    (f : PathFits N (types_in l) left start r) where
   -- the parts of the path
   abbrev m : Marks
   m = types_in l
@@ -106,79 +99,65 @@ module _ {D : Type 0} {K : Kind D} {N : Net D} (l : Links) (H : Shows K N l) (le
   pub start_arc : (shown l.arcs).arc start ≡ true
   start_arc = ap (λ (T : Table). T.arc start) H.arcs ∙ ap stands first.holds
 
-  pub fits_behind : (v : ℕ) → v ≡ tail_at N start → (has_lead_out N v ≡ true) × WalkFits (backwards N m) v (at + 1) row
-  fits_behind v e = (
-    outer_reached H.sound m false start v first.starts e,
-    record { leads = R.behind; stop = R.input; walk = back v e; room = omega (arith, leads, f.room) },
-  )
+  -- behind a word that is written first
+  module _ {r1 : WordRow} (word : Wrote r r1 (0 ∷ [])) {v : ℕ} (e : v ≡ tail_at N start) where
+    pub behind_reached : has_lead_out N v ≡ true
+    behind_reached = outer_reached H.sound m false start v first.starts e
 
-  module _ {v : ℕ} (e : v ≡ tail_at N start) {row1 : List ℕ} {from : ℕ} (B : WalkPut (backwards N m) reverse v (at + 1) row row1 from)
-      (long : length row1 ≡ length row) where
-    one : row1 ≡ over row (at + 1) (reverse R.behind)
-    one = put_row (backwards N m) reverse B R.behind R.input (back v e)
+    module _ {r2 : WordRow} (B : WalkPut (backwards N m) reverse v r1 r2) where
+      one : Wrote r r2 (0 ∷ reverse R.behind)
+      one = wrote_more word (walk_put (backwards N m) reverse B R.behind R.input (back v e))
 
-    one_end : from ≡ at + 1 + length R.behind
-    one_end = put_end (backwards N m) reverse B R.behind R.input (back v e) ∙ ap (λ (n : ℕ). at + 1 + n) (length-reverse R.behind)
+      room : length R.rest + 1 + length R.ahead ≤ length (unwritten r2)
+      room = omega (arith, leads, wrote_room one, length-reverse R.behind, f.room)
 
-    pub fits_core : WalkFits (by_arcs (shown l.arcs) left) start (from + 1) row1
-    fits_core = record { leads = R.rest; stop = R.stop; walk = chain; room = omega (arith, leads, one_end, f.room) }
+      pub fits_core : CoreFits (shown l.arcs) left start r2
+      fits_core = record { leads = R.rest; stop = R.stop; walk = chain; room = omega (arith, room) }
 
-    module _ {row2 : List ℕ} {r : ℕ × ℕ} (C : CorePut (shown l.arcs) left start from row1 row2 r) (long2 : length row2 ≡ length row1) where
-      two : row2 ≡ over row1 from (start ∷ R.rest)
-      two = put_row (by_arcs (shown l.arcs) left) (λ js. start ∷ js) C.0 R.rest R.stop chain
+      module _ {r3 : WordRow} {stop : ℕ} (C : CorePut (shown l.arcs) left start r2 r3 stop) where
+        two : Wrote r2 r3 (start ∷ R.rest)
+        two = walk_put (by_arcs (shown l.arcs) left) (λ js. start ∷ js) C.0 R.rest R.stop chain
 
-      two_end : r.0 ≡ from + 1 + length R.rest
-      two_end = omega (arith, put_end (by_arcs (shown l.arcs) left) (λ js. start ∷ js) C.0 R.rest R.stop chain)
+        stop_is : stop ≡ R.stop
+        stop_is = sym C.1 ∙ (walk_one (by_arcs (shown l.arcs) left) start C.0.leads R.rest C.0.walk chain).1
 
-      stop_is : r.1 ≡ R.stop
-      stop_is = sym C.1 ∙ put_stop (by_arcs (shown l.arcs) left) (λ js. start ∷ js) C.0 R.rest R.stop chain
+        -- the words of the core
+        core_part : (from : ℕ) → from ≡ length (written r2) → drop from (written r3) ≡ start ∷ R.rest
+        core_part from i = ap (λ (n : ℕ). drop n (written r3)) i ∙ wrote_part two
 
-      core_part : take (r.0 - from) (drop from row2) ≡ start ∷ R.rest
-      core_part =
-          let n : r.0 - from ≡ length (start ∷ R.rest) = omega (arith, two_end) in
-          ap (λ (k : ℕ). take k (drop from row2)) n ∙ ap (λ (x : List ℕ). take (length (start ∷ R.rest)) (drop from x)) two
-          ∙ over_part row1 from (start ∷ R.rest) (omega (arith, two_end, leads, one_end, f.room))
+        pub fits_lower : (from : ℕ) → from ≡ length (written r2) → (core : List ℕ) → core ≡ drop from (written r3) → (k : ℕ) → count_on k core ≤ left k
+        fits_lower from i core c k =
+            omega (arith, ap (count_on k) (c ∙ core_part from i), core_fits H.sound m left first R.rest R.stop onward k)
 
-      pub fits_lower : (k : ℕ) → count_on k (take (r.0 - from) (drop from row2)) ≤ left k
-      fits_lower k = omega (arith, ap (count_on k) core_part, core_fits H.sound m left first R.rest R.stop onward k)
+        module _ {u : ℕ} (i : u ≡ head_node N stop) where
+          pub fits_ahead : (has_lead_in N u ≡ true) × WalkFits (forwards N m) u r3
+          fits_ahead =
+              let d = walk_ends (onwards N m left) start R.rest R.stop onward in (
+                outer_reached H.sound m true stop u (ap (is_end_lead N m) stop_is ∙ d) i,
+                record { leads = R.ahead; stop = R.output; walk = fore stop u stop_is i; room = omega (arith, room, wrote_room two) },
+              )
 
-      pub fits_ahead : (u : ℕ) → u ≡ head_node N r.1 → (has_lead_in N u ≡ true) × WalkFits (forwards N m) u r.0 row2
-      fits_ahead u i =
-          let d = walk_ends (onwards N m left) start R.rest R.stop onward in (
-            outer_reached H.sound m true r.1 u (ap (is_end_lead N m) stop_is ∙ d) i,
-            record { leads = R.ahead; stop = R.output; walk = fore r.1 u stop_is i; room = omega (arith, leads, one_end, two_end, f.room) },
-          )
+          module _ {r4 : WordRow} (A : WalkPut (forwards N m) (λ js. js) u r3 r4) where
+            whole : Wrote r r4 (0 ∷ f.path)
+            whole =
+                let is : ((0 ∷ reverse R.behind) ++ (start ∷ R.rest)) ++ R.ahead ≡ 0 ∷ f.path =
+                append_assoc (0 ∷ reverse R.behind) (start ∷ R.rest) R.ahead
+                ∙ ap (λ (c : List ℕ). 0 ∷ (reverse R.behind ++ (c ++ R.ahead))) (ap (λ (x : ℕ). x ∷ R.rest) (sym f.first) ∙ sym R.core_is)
+                ∙ ap (λ (p : List ℕ). 0 ∷ p) (sym R.path_is) in
+                subst (Wrote r r4) is (wrote_more (wrote_more one two) (walk_put (forwards N m) (λ js. js) A R.ahead R.output (fore stop u stop_is i)))
 
-      module _ {u : ℕ} (i : u ≡ head_node N r.1) {row3 : List ℕ} {end : ℕ} (A : WalkPut (forwards N m) (λ js. js) u r.0 row2 row3 end) where
-        three : row3 ≡ over row2 r.0 R.ahead
-        three = put_row (forwards N m) (λ js. js) A R.ahead R.output (fore r.1 u stop_is i)
+            module _ {from to : ℕ} (b : from ≡ length (written r)) (a : to ≡ length (written r4)) where
+              pub path_number : to - from - 1 ≡ length f.path
+              path_number = omega (arith, wrote_length whole)
 
-        pub path_end : end ≡ at + 1 + length f.path
-        path_end = omega (arith, leads, one_end, two_end, put_end (forwards N m) (λ js. js) A R.ahead R.output (fore r.1 u stop_is i))
-
-        whole : row3 ≡ over row (at + 1) f.path
-        whole =
-            let bs : List ℕ = reverse R.behind in let core : List ℕ = start ∷ R.rest in
-            let b = length-reverse R.behind in let bc = length-append bs core in
-            let is : bs ++ (core ++ R.ahead) ≡ f.path =
-            ap (λ (x : ℕ). bs ++ ((x ∷ R.rest) ++ R.ahead)) (sym f.first) ∙ ap (λ (c : List ℕ). bs ++ (c ++ R.ahead)) (sym R.core_is)
-            ∙ sym R.path_is in
-            three ∙ ap (λ (x : List ℕ). over x r.0 R.ahead) (two ∙ ap (λ (x : List ℕ). over x from core) one
-            ∙ ap (λ (k : ℕ). over (over row (at + 1) bs) k core) (omega (arith, one_end)) ∙ over_over row (at + 1) bs core (omega (arith, leads, f.room)))
-            ∙ ap (λ (k : ℕ). over (over row (at + 1) (bs ++ core)) k R.ahead) (omega (arith, one_end, two_end))
-            ∙ over_over row (at + 1) (bs ++ core) R.ahead (omega (arith, leads, f.room))
-            ∙ ap (over row (at + 1)) (append_assoc bs core R.ahead ∙ is)
-
-        pub path_put : (lower : ℕ → ℕ) → lower ≡ lowered left (take (r.0 - from) (drop from row2)) →
-            PathPut N m left at row lower (set row3 at (end - at - 1)) end
-        path_put lower low =
-            let count : end - at - 1 ≡ length f.path = omega (arith, path_end) in
-            record {
-              core = f.core;
-              path = f.path;
-              drawn = R;
-              row_is = ap (λ (x : List ℕ). set x at (end - at - 1)) whole ∙ over_first row at f.path (end - at - 1) f.room
-                  ∙ ap (λ (k : ℕ). over row at (k ∷ f.path)) count;
-              end_is = path_end;
-              left_is = low ∙ ap (lowered left) (core_part ∙ ap (λ (x : ℕ). x ∷ R.rest) (sym f.first) ∙ sym R.core_is);
-            }
+              pub path_put : {s : WordRow} → Rewrote r4 s (set (written r4) from (to - from - 1)) →
+                  (at : ℕ) → at ≡ length (written r2) → (core : List ℕ) → core ≡ drop at (written r3) →
+                  (lower : ℕ → ℕ) → lower ≡ lowered left core → PathPut N m left r lower s
+              path_put {s} S at j core c lower low = record {
+                core = f.core;
+                path = f.path;
+                drawn = R;
+                put = subst (λ (n : ℕ). Wrote r s (n ∷ f.path)) path_number
+                    (wrote_first whole (subst (λ (n : ℕ). Rewrote r4 s (set (written r4) n (to - from - 1))) b S));
+                left_is = low ∙ ap (lowered left) (c ∙ core_part at j ∙ ap (λ (x : ℕ). x ∷ R.rest) (sym f.first) ∙ sym R.core_is);
+              }

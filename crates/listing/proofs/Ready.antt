@@ -1,5 +1,5 @@
--- What is known of walks and lists before they are looked for: they exist, and are short.
-use Rattle.std.proofs.Common.{◌≡◌, ℕ, ◌-◌, ◌<◌, ◌≤◌, Bool, true, false, cond, List, [], ◌∷◌, length, arith}
+-- What is known of walks and lists before they are looked for: they exist, and paths are short.
+use Rattle.std.proofs.Common.{◌≡◌, ℕ, ◌<◌, ◌≤◌, Bool, true, false, List, length, arith}
 use Rattle.delay.specs.Kind.{Kind, Laws}
 use Rattle.wiring.specs.Net.{Net, Sound}
 use Rattle.wiring.specs.Lengths.{Marks, Types}
@@ -11,30 +11,23 @@ use Rattle.drawing.proofs.Parts.{out_parts, in_parts, tail_of, head_of}
 use Rattle.drawing.proofs.Left.{all_left}
 use Rattle.drawing.proofs.Paths.{path_few}
 use Rattle.drawing.proofs.Exist.{behind_exists, ahead_exists, draws_exist, draws_paths}
-use Rattle.listing.specs.Walks.{way, Reached, WalkShort}
+use Rattle.listing.specs.Walks.{way, Reached, nodes_on}
 
 module _ {D : Type 0} {K : Kind D} {N : Net D} (S : Sound K N) (m : Marks) where
-  -- how many nodes lie that way
-  abbrev nodes_on : Bool → ℕ → ℕ
-  nodes_on along v = cond along (N.nodes - v) v
-
-  fewer_on : (along : Bool) (v j : ℕ) → (way N m along).by v j ≡ true → nodes_on along ((way N m along).next j) < nodes_on along v
+  -- each lead leaves fewer nodes that way
+  pub fewer_on : (along : Bool) (v j : ℕ) → (way N m along).by v j ≡ true → nodes_on N along ((way N m along).next j) < nodes_on N along v
   fewer_on true v j e = let p = out_parts N m v j e in
       omega (arith, p.begins, head_of N j p.lead p.holds, S.upwards j p.lead p.holds, S.inside j p.lead p.holds)
   fewer_on false v j e = let p = in_parts N m v j e in omega (arith, p.ends, tail_of N j p.lead p.holds, S.upwards j p.lead p.holds)
 
-  walk_few : (along : Bool) (v : ℕ) (js : List ℕ) (w : ℕ) → Walk (way N m along) v js w → length js ≤ nodes_on along v
-  walk_few along v [] w g = omega arith
-  walk_few along v (j ∷ js) w g = omega (arith, fewer_on along v j g.1.holds, walk_few along ((way N m along).next j) js w g.2)
+pub few_on : {D : Type 0} {K : Kind D} {N : Net D} → Sound K N → (along : Bool) (v : ℕ) → Reached N along v → nodes_on N along v ≤ 4096
+few_on S true v r = omega (arith, S.few_nodes)
+few_on S false v r = omega (arith, out_inside S v r, S.few_nodes)
 
 module _ {D : Type 0} {K : Kind D} (L : Laws K) {N : Net D} (S : Sound K N) {m : Marks} (Y : Types K N m) where
-  pub walk_short : (along : Bool) (v : ℕ) → Reached N along v → WalkShort (way N m along) v
-  walk_short true v r =
-      let w = ahead_exists L S (worked_tables L S) Y v r in
-      record { leads = w.0; stop = w.1; walk = w.2; short = omega (arith, walk_few S m true v w.0 w.1 w.2, S.few_nodes) }
-  walk_short false v r =
-      let w = behind_exists L S (worked_tables L S) Y v r in
-      record { leads = w.0; stop = w.1; walk = w.2; short = omega (arith, walk_few S m false v w.0 w.1 w.2, out_inside S v r, S.few_nodes) }
+  pub walk_exists : (along : Bool) (v : ℕ) → Reached N along v → (js : List ℕ) × (w : ℕ) × Walk (way N m along) v js w
+  walk_exists true v r = ahead_exists L S (worked_tables L S) Y v r
+  walk_exists false v r = behind_exists L S (worked_tables L S) Y v r
 
   -- the list of loads, with paths short enough for a word
   pub list_drawn : (f : ℕ → ℕ) → Loads N m f → (ps : List (List ℕ)) × Draws N m f ps × ((p : List ℕ) → OneOf ps p → length p < 65536)

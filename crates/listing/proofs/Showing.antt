@@ -1,33 +1,31 @@
 -- What the links tell of the leads by which a walk goes on.
-use Rattle.std.proofs.Common.{◌≡◌, ℕ, ◌<◌, Bool, true, false, cond, not, ◌&&◌, eqb, List, length, Some, Option, sym, refl, ap, ◌∙◌, subst, ⊎_elim, arith}
-use Rattle.std.proofs.lemmas.Bool.{cases_Bool, both_ways, and_parts, and_from, and_cases, and_left, and_right, not-false, eqb-true}
-use Rattle.delay.specs.Kind.{Kind}
+use Rattle.std.proofs.Common.{◌≡◌, ℕ, ◌<◌, Bool, true, false, cond, not, ◌&&◌, eqb, List, length, Some, None, Option, sym, refl, ap, ◌∙◌, subst, ⊎_elim, arith}
+use Rattle.std.proofs.lemmas.Bool.{both_ways, false_from_ne_true, and_parts, and_from, and_cases, and_left, and_right, not-false, eqb-true}
+use Rattle.delay.specs.Kind.{Kind, Laws}
 use Rattle.wiring.specs.declared.Lead.{Lead}
 use Rattle.wiring.specs.Net.{Net, Holds, Sound, is_lead, has_lead_in, has_lead_out}
 use Rattle.wiring.specs.Lengths.{Marks}
-use Rattle.wiring.specs.Lists.{Walk, tail_at, head_node}
+use Rattle.wiring.specs.Lists.{Walker, Walk, tail_at, head_node}
 use Rattle.wiring.proofs.Ends.{has_in, has_out, lead_in, lead_out, in_inside, out_inside, input_parts, output_parts}
 use Rattle.wiring.proofs.Types.{lead_at}
 use Rattle.flow.specs.Table.{Table, begins, ends}
 use Rattle.marks.specs.Links.{link_at, Earliest}
 use Rattle.marks.specs.Shown.{shown}
+use Rattle.marks.proofs.Following.{linked_first}
 use Rattle.cover.specs.Arcs.{highest_node, arc_table}
 use Rattle.cover.proofs.Arcs.{begins_draining, ends_fed, none_begins, none_ends, starts_begin, ends_end}
 use Rattle.drawing.proofs.Parts.{out_parts, in_parts, tail_of, head_of}
 use Rattle.listing.specs.declared.links.Links.{Links}
 use Rattle.listing.specs.Shows.{types_in, Shows}
 use Rattle.listing.specs.Looks.{outer_arc}
-use Rattle.listing.specs.Walks.{way, Reached, WalkLong}
+use Rattle.listing.specs.Walks.{way, Reached, nodes_on, StepTo, WalkLong}
 use Rattle.listing.specs.Costs.{outer, Extends}
-use Rattle.listing.proofs.Walking.{OnWay, Meets, meets}
+use Rattle.listing.proofs.Walking.{Meets, meets}
+use Rattle.listing.proofs.Ready.{fewer_on, walk_exists}
 
 -- the arc at k begins at v or, the other way, it ends there
 abbrev at_node : Table → Bool → ℕ → ℕ → Bool
-at_node T true = begins T
-at_node T false = ends T
-
-never : (b : Bool) → (b ≡ true → ⊥) → b ≡ false
-never b n = ⊎_elim (λ e. absurd (n e)) (λ e. e) (cases_Bool b)
+at_node T along v k = T.arc k && eqb (cond along (T.begin k) (T.end k)) v
 
 -- where a node has leads on the one side, and one is not done there, it has leads on the other side too
 more_sides : (a b : Bool) → a ≡ true → (a && not b) ≡ false → b ≡ true
@@ -40,11 +38,11 @@ module _ {D : Type 0} {K : Kind D} {N : Net D} (S : Sound K N) (m : Marks) where
   may_go false v r d k = ends_fed S m v (and_from (has_lead_in N v) (has_lead_out N v) (more_sides (has_lead_out N v) (has_lead_in N v) r d) r) k
 
   may_not : (along : Bool) (v : ℕ) → Reached N along v → (way N m along).done v ≡ true → (k : ℕ) → at_node (arc_table N m) along v k ≡ false
-  may_not true v r d k = never (begins (arc_table N m) v k) (λ e.
+  may_not true v r d k = false_from_ne_true (begins (arc_table N m) v k) (λ e.
       let p = and_parts ((arc_table N m).arc k) (eqb ((arc_table N m).begin k) v) e in let i = lead_in N v r in
       none_begins S m v (and_right (has_lead_in N v) (has_lead_out N v) (output_parts N v d).1) (λ z. omega (arith, i.ends, S.upwards i.place i.lead i.holds))
       k p.0 (eqb-true ((arc_table N m).begin k) v p.1))
-  may_not false v r d k = never (ends (arc_table N m) v k) (λ e.
+  may_not false v r d k = false_from_ne_true (ends (arc_table N m) v k) (λ e.
       let p = and_parts ((arc_table N m).arc k) (eqb ((arc_table N m).end k) v) e in let i = lead_out N v r in
       none_ends S m v (and_left (has_lead_in N v) (has_lead_out N v) (input_parts N v d).1)
       (λ z. omega (arith, i.begins, S.upwards i.place i.lead i.holds, S.inside i.place i.lead i.holds))
@@ -63,31 +61,47 @@ next_is : {D : Type 0} (N : Net D) (m : Marks) (along : Bool) (j : ℕ) → (way
 next_is N m true j = refl
 next_is N m false j = refl
 
-module _ {D : Type 0} {K : Kind D} {N : Net D} (l : Links) (H : Shows K N l) (along : Bool) (v : ℕ) (r : Reached N along v) where
+-- a walk that is not done goes on from v by the lead j to the node x
+pub record Onward {D : Type 0} (N : Net D) (m : Marks) (along : Bool) (v j x : ℕ) : Type 0 where
+  pub step : StepTo (way N m along) v (Some j) x
+  pub reached : Reached N along x
+  pub fewer : nodes_on N along x < nodes_on N along v
+
+module _ {D : Type 0} {K : Kind D} (L : Laws K) {N : Net D} (l : Links) (H : Shows K N l) (along : Bool) (v : ℕ) (r : Reached N along v) where
+  abbrev X : Walker
+  X = way N (types_in l) along
+
   -- the nodes of the links are those of the wiring
   pub node_within : v < length l.nodes.now
-  node_within = omega (arith, inside H.sound (types_in l) along v r, H.whole.nodes, ap (λ (T : Table). T.nodes) H.arcs)
+  node_within = omega (arith, inside H.sound (types_in l) along v r, l.whole.nodes, ap (λ (T : Table). T.nodes) H.arcs)
 
-  named : (b : Bool) → Earliest (at_node (shown l.arcs) b v) 0 (link_at l.nodes.now b v)
-  named true = H.whole.linked.out v node_within
-  named false = H.whole.linked.into v node_within
+  walk : (js : List ℕ) × (w : ℕ) × Walk (way N (types_in l) along) v js w
+  walk = walk_exists L H.sound H.types along v r
 
-  module _ {u : ℕ} {met rest : List ℕ} (W : OnWay (way N (types_in l) along) u v met rest) where
-    -- the lowest arc of the node is the lead that comes next
-    pub link_meets : (o : Option ℕ) → o ≡ link_at l.nodes.now along v → Meets rest o
-    link_meets o e = subst (Meets rest) (sym e) (
-        meets (way N (types_in l) along) v rest W.stop (at_node (arc_table N (types_in l)) along v) (link_at l.nodes.now along v) W.goes
-        (subst (λ (T : Table). Earliest (at_node T along v) 0 (link_at l.nodes.now along v)) H.arcs (named along))
-        (may_go H.sound (types_in l) along v r) (may_not H.sound (types_in l) along v r))
+  -- the lowest arc of the node is the lead by which a walk goes on from there
+  goes_on : (o : Option ℕ) → o ≡ link_at l.nodes.now along v → Meets walk.0 o
+  goes_on o e = subst (Meets walk.0) (sym e) (
+      meets X v walk.0 walk.1 (at_node (arc_table N (types_in l)) along v) (link_at l.nodes.now along v) walk.2
+      (subst (λ (T : Table). Earliest (at_node T along v) 0 (link_at l.nodes.now along v)) H.arcs
+      (linked_first l.arcs.marks.now l.nodes.now l.whole.linked along v node_within))
+      (may_go H.sound (types_in l) along v r) (may_not H.sound (types_in l) along v r))
 
-    -- and brings one to the next node, x
-    pub link_leads_lem : (j : ℕ) → Meets rest (Some j) → (P : ℕ → Type 0) → P ((way N (types_in l) along).next j) → (x : ℕ) →
-        x ≡ cond along (head_node N j) (tail_at N j) → P x × Reached N along x
-    link_leads_lem j q P p x e =
-        let X = way N (types_in l) along in
-        let g = subst (λ (r : List ℕ). Walk X v r W.stop) q.1 W.goes in
-        let is : X.next j ≡ x = next_is N (types_in l) along j ∙ sym e in
-        (subst P is p, subst (Reached N along) is (reached_next N (types_in l) along v j g.1.holds))
+  module _ (o : Option ℕ) (named_is : o ≡ link_at l.nodes.now along v) where
+    -- where none is named, it ends
+    pub step_ends : o ≡ None → X.done v ≡ true
+    step_ends n = (subst (λ (js : List ℕ). Walk X v js walk.1) (subst (Meets walk.0) n (goes_on o named_is)) walk.2).0
+
+    -- and else the lead brings one to the next node
+    pub step_leads : {j : ℕ} → o ≡ Some j → {x : ℕ} → x ≡ cond along (head_node N j) (tail_at N j) → Onward N (types_in l) along v j x
+    step_leads {j} s {x} i =
+        let q = subst (Meets walk.0) s (goes_on o named_is) in
+        let g = subst (λ (js : List ℕ). Walk X v js walk.1) q.1 walk.2 in
+        let is : X.next j ≡ x = next_is N (types_in l) along j ∙ sym i in
+        record {
+          step = (g.0, g.1, is);
+          reached = subst (Reached N along) is (reached_next N (types_in l) along v j g.1.holds);
+          fewer = subst (λ (w : ℕ). nodes_on N along w < nodes_on N along v) is (fewer_on H.sound (types_in l) along v j g.1.holds);
+        }
 
 -- beyond a lead with which a core ends or begins, a walk goes on; beyond any other, nothing
 module _ {D : Type 0} (N : Net D) (m : Marks) (along : Bool) (k : ℕ) where

@@ -30,13 +30,13 @@ module _ {D : Type 0} (N : Net D) (m : Marks) where
 
 module _ {D : Type 0} {K : Kind D} {N : Net D} (l : Links) (H : Shows K N l) where
   pub source_within : l.arcs.source < length l.nodes.now
-  source_within = omega (arith, l.arcs.fits.0, H.whole.nodes)
+  source_within = omega (arith, l.arcs.fits.0, l.whole.nodes)
 
   pub seeks_all : (left : ℕ → ℕ) (from : Option ℕ) → from ≡ out_at l.nodes.now l.arcs.source → Seeks N (types_in l) left from
   seeks_all left from e = record {
     low = 0;
     named = subst (λ (T : flow.Table). Earliest (flow.begins T T.source) 0 from) H.arcs
-        (subst (Earliest (flow.begins (shown l.arcs) l.arcs.source) 0) (sym e) (H.whole.linked.out l.arcs.source source_within));
+        (subst (Earliest (flow.begins (shown l.arcs) l.arcs.source) 0) (sym e) (l.whole.linked.out l.arcs.source source_within));
     none = λ j h. absurd (omega arith);
   }
 

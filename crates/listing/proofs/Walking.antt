@@ -1,21 +1,11 @@
--- Walks under way: the leads met have been written or counted, and the rest is still to come.
-use Rattle.std.proofs.Common.{◌≡◌, ℕ, ◌+◌, ◌<◌, ◌≤◌, Bool, true, false, List, [], ◌∷◌, ◌++◌, length, set, Some, None, Option, sym, refl, ap, ◌∙◌, subst, arith}
+-- Walks by the lowest leads, one step after another.
+use Rattle.std.proofs.Common.{◌≡◌, ℕ, ◌<◌, Bool, true, false, List, [], ◌∷◌, length, Some, None, Option, sym, refl, ap, ◌∙◌, subst, arith}
 use Rattle.std.proofs.lemmas.Bool.{both_ways}
-use Rattle.std.proofs.lemmas.List.{length_push}
+use Rattle.std.specs.Iterator.{Yields, Drains}
 use Rattle.wiring.specs.Lists.{Lowest, Walker, Walk}
 use Rattle.flow.proofs.Exist.{lowest_one}
 use Rattle.marks.specs.Links.{Earliest}
-use Rattle.drawing.specs.Progress.{WalkTo}
-use Rattle.drawing.proofs.Progress.{walk_step, walk_done}
-use Rattle.listing.specs.Row.{over}
-use Rattle.listing.specs.Walks.{WalkFits, WalkPut, WalkShort, WalkLong}
-use Rattle.listing.proofs.Rows.{over_none, over_push}
-
--- the walk from v has come to node by the leads met, and the rest is still to come
-pub record OnWay (X : Walker) (v node : ℕ) (met rest : List ℕ) : Type 0 where
-  pub come : WalkTo X v met node
-  pub stop : ℕ
-  pub goes : Walk X node rest stop
+use Rattle.listing.specs.Walks.{StepTo}
 
 -- what is still to come begins with the lead that is named, or nothing comes
 abbrev pub Meets : List ℕ → Option ℕ → Type 0
@@ -33,100 +23,42 @@ module _ (X : Walker) where
       let low : Lowest (X.by v) j = record { holds = sym (may g.0 j) ∙ e.1; below = λ k l. sym (may g.0 k) ∙ e.2 k (omega arith) l } in
       (is, ap (λ (k : ℕ). k ∷ is) (lowest_one g.1 low))
 
-  on_start : (v : ℕ) (js : List ℕ) (w : ℕ) → Walk X v js w → OnWay X v v [] js
-  on_start v js w g = record { come = refl; stop = w; goes = g }
+-- states that stand at nodes and lead on step by step, all in one way
+module _ {S C : Type 0} (of : S → C) (along : S → Bool) (node : S → ℕ) (X : C → Bool → Walker) where
+  abbrev Steps : S → Option ℕ → S → Type 0
+  Steps s o t = StepTo (X (of s) (along s)) (node s) o (node t) × (of t ≡ of s) × (along t ≡ along s)
 
-  on_turn : (v node : ℕ) (met rest : List ℕ) (j : ℕ) (is : List ℕ) → OnWay X v node met rest → rest ≡ j ∷ is → OnWay X v (X.next j) (met ++ (j ∷ [])) is
-  on_turn v node met rest j is W e =
-      let g : Walk X node (j ∷ is) W.stop = subst (λ (r : List ℕ). Walk X node r W.stop) e W.goes in
-      record { come = walk_step X v node met j W.come g.0 g.1; stop = W.stop; goes = g.2 }
+  abbrev way_of : S → Walker
+  way_of s = X (of s) (along s)
 
-  pub on_end : (v node : ℕ) (met rest : List ℕ) → OnWay X v node met rest → rest ≡ [] → Walk X v met node
-  on_end v node met rest W e = walk_done X v node met W.come (subst (λ (r : List ℕ). Walk X node r W.stop) e W.goes).0
+  same_way : (s : S) (o : Option ℕ) (t : S) → Steps s o t → way_of t ≡ way_of s
+  same_way s o t r = λ i. X (r.1 i) (r.2 i)
 
-  -- written: the leads met stand in the row from at to end, and there is room for the rest
-  pub record Writes (v at : ℕ) (before : List ℕ) (node : ℕ) (row : List ℕ) (end : ℕ) : Type 0 where
-    pub met : List ℕ
-    pub rest : List ℕ
-    pub on : OnWay X v node met rest
-    pub room : at + length met + length rest ≤ length before
-    pub row_is : row ≡ over before at met
-    pub end_is : end ≡ at + length met
+  -- all that they meet is a walk
+  pub steps_walk : (s : S) (xs : List ℕ) → Drains Steps s xs → (stop : ℕ) × Walk (way_of s) (node s) xs stop
+  steps_walk s [] d = (node s, (subst (λ (t : S). (way_of t).done (node t) ≡ true) (sym d.1.1) d.1.2.0, refl))
+  steps_walk s (x ∷ xs) d =
+      let one = d.1.1 in let step = one.1.0 in
+      let on = steps_walk one.0 xs (d.0, (d.1.0, one.2, d.1.2)) in (
+        on.0,
+        (
+          step.0,
+          step.1,
+          subst (λ (v : ℕ). Walk (way_of s) v xs on.0) (sym step.2)
+              (subst (λ (Y : Walker). Walk Y (node one.0) xs on.0) (same_way s (Some x) one.0 one.1) on.1),
+        ),
+      )
 
-  pub writes_start : {v at : ℕ} {row : List ℕ} → WalkFits X v at row → Writes v at row v row at
-  writes_start {v} {at} {row} f = record {
-    met = [];
-    rest = f.leads;
-    on = on_start v f.leads f.stop f.walk;
-    room = omega (arith, f.room);
-    row_is = sym (over_none row at);
-    end_is = omega arith;
-  }
-
-  module _ {v at : ℕ} {before : List ℕ} {node : ℕ} {row : List ℕ} {end : ℕ} (W : Writes v at before node row end) where
-    pub writes_low : (j : ℕ) → Meets W.rest (Some j) → end < length before
-    writes_low j q = omega (arith, ap length q.1, W.room, W.end_is)
-
-    pub writes_turn : (j : ℕ) → Meets W.rest (Some j) → Writes v at before (X.next j) (set row end j) (end + 1)
-    writes_turn j q =
-        let l = ap length q.1 in let p = length_push W.met j in
-        record {
-          met = W.met ++ (j ∷ []);
-          rest = q.0;
-          on = on_turn v node W.met W.rest j q.0 W.on q.1;
-          room = omega (arith, W.room);
-          row_is = ap (λ (r : List ℕ). set r end j) W.row_is ∙ ap (λ (n : ℕ). set (over before at W.met) n j) W.end_is
-              ∙ over_push before at W.met j (omega (arith, W.room));
-          end_is = omega (arith, W.end_is);
-        }
-
-    pub writes_end : Meets W.rest None → WalkPut X (λ js. js) v at before row end
-    writes_end e = record {
-      leads = W.met;
-      stop = node;
-      walk = on_end v node W.met W.rest W.on e;
-      row_is = W.row_is;
-      end_is = W.end_is;
-      room = omega (arith, W.end_is, W.room);
-    }
-
-  -- counted: n leads have been met
-  pub record Counted (v node n : ℕ) : Type 0 where
-    pub met : List ℕ
-    pub rest : List ℕ
-    pub on : OnWay X v node met rest
-    pub number : n ≡ length met
-    pub short : n + length rest ≤ 4096
-
-  pub counts_start : {v : ℕ} → WalkShort X v → Counted v v 0
-  counts_start {v} f = record {
-    met = [];
-    rest = f.leads;
-    on = on_start v f.leads f.stop f.walk;
-    number = refl;
-    short = omega (arith, f.short);
-  }
-
-  module _ {v node n : ℕ} (W : Counted v node n) where
-    pub counts_low : (j : ℕ) → Meets W.rest (Some j) → n < 4096
-    counts_low j q = omega (arith, ap length q.1, W.short)
-
-    pub counts_turn : (j : ℕ) → Meets W.rest (Some j) → Counted v (X.next j) (n + 1)
-    counts_turn j q =
-        let l = ap length q.1 in
-        record {
-          met = W.met ++ (j ∷ []);
-          rest = q.0;
-          on = on_turn v node W.met W.rest j q.0 W.on q.1;
-          number = omega (arith, W.number, length_push W.met j);
-          short = omega (arith, W.short);
-        }
-
-    pub counts_end : Meets W.rest None → WalkLong X v n
-    counts_end e = record {
-      leads = W.met;
-      stop = node;
-      walk = on_end v node W.met W.rest W.on e;
-      number = W.number;
-      short = omega (arith, W.short);
-    }
+  -- and before one more of the leads of a walk is met, fewer have been
+  pub steps_less : (s : S) (xs : List ℕ) (t : S) (x : ℕ) (u : S) → Yields Steps s xs t → Steps t (Some x) u →
+      (leads : List ℕ) (w : ℕ) → Walk (way_of s) (node s) leads w → length xs < length leads
+  steps_less s [] t x u y r [] w g = absurd (both_ways ((way_of s).done (node s))
+      (subst (λ (q : S). (way_of q).done (node q) ≡ false) (sym y) r.0.0) g.0)
+  steps_less s [] t x u y r (i ∷ is) w g = omega arith
+  steps_less s (j ∷ js) t x u y r [] w g = absurd (both_ways ((way_of s).done (node s)) y.1.0.0 g.0)
+  steps_less s (j ∷ js) t x u y r (i ∷ is) w g =
+      let step = y.1.0 in
+      let at : (way_of s).next i ≡ node y.0 = ap (way_of s).next (lowest_one g.1 step.1) ∙ step.2 in
+      let on : Walk (way_of y.0) (node y.0) is w = subst (λ (Y : Walker). Walk Y (node y.0) is w) (sym (same_way s (Some j) y.0 y.1))
+      (subst (λ (v : ℕ). Walk (way_of s) v is w) at g.2) in
+      omega (arith, steps_less y.0 js t x u y.2 r is w on)

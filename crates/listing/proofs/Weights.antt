@@ -1,5 +1,5 @@
 -- The number of words as a sum over the places.
-use Rattle.std.proofs.Common.{◌≡◌, ℕ, suc, ◌+◌, ◌*◌, ◌<◌, ◌≤◌, Bool, true, false, cond, eqb, List, [], ◌∷◌, ◌++◌, reverse, length, sym, refl, ap, ◌∙◌, subst, inl, inr, ⊎_elim, add-mul, mul-le-mul, one-mul, zero-mul, arith}
+use Rattle.std.proofs.Common.{◌≡◌, ℕ, suc, ◌+◌, ◌*◌, ◌<◌, ◌≤◌, cond, eqb, List, [], ◌∷◌, ◌++◌, reverse, length, sym, refl, ap, ◌∙◌, subst, inl, inr, ⊎_elim, add-mul, mul-le-mul, one-mul, zero-mul, arith}
 use Rattle.std.proofs.lemmas.List.{length-append, length-reverse}
 use Rattle.std.proofs.lemmas.Bool.{cases_lt, cond-true, cond-false, cond_both}
 use Rattle.delay.specs.Kind.{Kind}
@@ -7,7 +7,7 @@ use Rattle.wiring.specs.declared.Lead.{Lead}
 use Rattle.wiring.specs.Net.{Net, Holds, Sound}
 use Rattle.wiring.specs.Paths.{On}
 use Rattle.wiring.specs.Lengths.{Marks}
-use Rattle.wiring.specs.Loads.{is_start_lead, sum_below, sum_where}
+use Rattle.wiring.specs.Loads.{is_start_lead, sum_below}
 use Rattle.wiring.specs.Lists.{count_on, lowered, tail_at, head_node, Walk, onwards, backwards, forwards, Drawn, Draws, words}
 use Rattle.wiring.proofs.Ends.{below_places}
 use Rattle.wiring.proofs.Types.{lead_at}
@@ -100,14 +100,6 @@ module _ {D : Type 0} {K : Kind D} {N : Net D} (S : Sound K N) (m : Marks) (c : 
 -- one more term of a sum
 sum_next : (n : ℕ) (f : ℕ → ℕ) (total x : ℕ) → total ≡ sum_below n f → x ≡ f n → total + x ≡ sum_below (n + 1) f
 sum_next n f total x e i = let s : suc n ≡ n + 1 = omega arith in subst (λ (j : ℕ). total + x ≡ sum_below j f) s (omega arith)
-
--- one more number at which a test holds, or does not
-pub where_more : (n : ℕ) (P : ℕ → Bool) (f : ℕ → ℕ) (total : ℕ) → total ≡ sum_where n P f → P n ≡ true → total + f n ≡ sum_where (n + 1) P f
-where_more n P f total e p = sum_next n (λ k. cond (P k) (f k) 0) total (f n) e (sym (cond-true {A = ℕ} (P n) (f n) 0 p))
-
-pub where_skip : (n : ℕ) (P : ℕ → Bool) (f : ℕ → ℕ) (total : ℕ) → total ≡ sum_where n P f → P n ≡ false → total ≡ sum_where (n + 1) P f
-where_skip n P f total e p =
-    let s : total ≡ total + 0 = omega arith in s ∙ sum_next n (λ k. cond (P k) (f k) 0) total 0 e (sym (cond-false {A = ℕ} (P n) (f n) 0 p))
 
 module _ {D : Type 0} (N : Net D) (m : Marks) where
   cost_small : (k c : ℕ) → Cost N m k c → c ≤ 8194

@@ -1,4 +1,5 @@
 pub mod Looks
+pub mod Whole
 pub mod Shows
 pub mod Row
 pub mod Walks

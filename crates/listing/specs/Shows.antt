@@ -1,10 +1,9 @@
--- What the links are, and what they hold of a wiring.
-use Rattle.std.specs.Prelude.{◌≡◌, length}
+-- What the links hold of a wiring.
+use Rattle.std.specs.Prelude.{◌≡◌}
 use Rattle.delay.specs.Kind.{Kind}
 use Rattle.wiring.specs.Net.{Net, Sound}
 use Rattle.wiring.specs.Lengths.{Marks, Types}
 use Rattle.marks.specs.Marks.{classes}
-use Rattle.marks.specs.Links.{Linked}
 use Rattle.marks.specs.Shown.{shown}
 use Rattle.cover.specs.Arcs.{arc_table}
 use Rattle.listing.specs.declared.links.Links.{Links}
@@ -13,14 +12,8 @@ use Rattle.listing.specs.declared.links.Links.{Links}
 abbrev pub types_in : Links → Marks
 types_in l = classes l.arcs.marks.now
 
--- the links are whole: each node has an entry, which names the lowest arcs that begin and end there, and each arc names the next ones
-pub record Whole (l : Links) : Type 0 where
-  pub nodes : length l.nodes.now ≡ l.arcs.nodes
-  pub linked : Linked l.arcs.marks.now l.nodes.now 0
-
--- the wiring N is sound, and the links are whole, hold the types of its leads and show its arcs
+-- the wiring N is sound, and the links hold the types of its leads and show its arcs
 pub record Shows {D : Type 0} (K : Kind D) (N : Net D) (l : Links) : Type 0 where
   pub sound : Sound K N
-  pub whole : Whole l
   pub types : Types K N (types_in l)
   pub arcs : shown l.arcs ≡ arc_table N (types_in l)

@@ -4,7 +4,9 @@
 
 mod cores;
 pub mod count;
+pub mod linked;
 pub mod links;
 pub mod list;
 mod path;
+mod row;
 mod walk;

@@ -1,7 +1,9 @@
 -- What a search keeps, step by step.
-use Rattle.std.proofs.Common.{◌≡◌, ℕ, zero, suc, ◌+◌, ◌<◌, ◌≤◌, Bool, true, false, eqb, ◌⊎◌, List, length, Some, None, sym, refl, ap, ◌∙◌, subst, inl, inr, ⊎_elim, arith}
+use Rattle.std.proofs.Common.{◌≡◌, ℕ, zero, suc, ◌+◌, ◌<◌, ◌≤◌, Bool, true, false, not, eqb, ◌⊎◌, List, length, sym, refl, ap, ◌∙◌, subst, inl, inr, ⊎_elim, arith}
 use mathlib.Core.Path.{fun_ext}
-use Rattle.std.proofs.lemmas.Bool.{cases_eq, cases_lt, eq-eqb, ne_eqb, eqb-true, both_ways}
+use Rattle.std.proofs.lemmas.Bool.{cases_eq, eq-eqb, ne_eqb, eqb-true, both_ways}
+use Rattle.std.specs.List.{All}
+use Rattle.std.proofs.lemmas.List.Elements.{All-weaker}
 use Rattle.wiring.specs.Loads.{sum_below}
 use Rattle.flow.specs.Table.{Table, Sound}
 use Rattle.flow.specs.Ways.{Step, step_from, step_to}
@@ -10,11 +12,10 @@ use Rattle.flow.proofs.Cuts.{arc_inside}
 use Rattle.flow.proofs.Seek.{put_at, put_off, trail_none, trail_more, fewer, step_within}
 use Rattle.marks.specs.declared.mark.Mark.{Mark}
 use Rattle.marks.specs.Marks.{reached_of, depth_of, via_of}
-use Rattle.marks.specs.Links.{arc_at, begin_at, end_at, out_at, into_at, Earliest, Linked}
+use Rattle.marks.specs.Links.{arc_at, begin_at, end_at, out_at, into_at, Linked}
 use Rattle.marks.proofs.Linking.{heads_moved}
-use Rattle.loads.specs.Steps.{over, Free, leads_from}
-use Rattle.loads.specs.Search.{TrailOf, Shallow, queued_at, Reaches, Queued, Grown, Followed, Finished}
-use Rattle.loads.proofs.Stepping.{leads_at}
+use Rattle.loads.specs.Steps.{over, Free}
+use Rattle.loads.specs.Search.{TrailOf, Shallow, Stepped, stepped_of, queued_at, Reaches, Queued, Grown, Followed, Finished}
 
 -- one step more: the step s leads out of what is reached, and its end is put into the queue
 module _ (T : Table) (S : Sound T) (f : ℕ → ℕ) (low : ℕ) (ns ms : List Mark) (c : ℕ) (s : Step) (o : Opens T f low (reached_of ns) s)
@@ -53,6 +54,13 @@ module _ (T : Table) (S : Sound T) (f : ℕ → ℕ) (low : ℕ) (ns ms : List M
   step_last : queued_at ms c ≡ step_to T s
   step_last = ap (λ (q : ℕ → ℕ). q c) r.queued ∙ put_at (queued_at ns) c (step_to T s) c refl
 
+  step_stepped : (u : ℕ) → reached_of ns u ≡ true → Stepped u ns → Stepped u ms
+  step_stepped u is h w e = ap (λ (R : ℕ → Bool). R w) r.stepped ∙ ⊎_elim
+      (λ q. put_at (stepped_of ns) (step_to T s) true w q
+      ∙ sym (ap not (ne_eqb w u (λ p. both_ways (reached_of ns u) (ap (reached_of ns) (sym (q ∙ p)) ∙ o.to) is))))
+      (λ p. put_off (stepped_of ns) (step_to T s) true w p.1 ∙ h w p.0)
+      (step_was w e)
+
   step_shallow : Shallow T ns → Shallow T ms
   step_shallow sh w e = ⊎_elim
       (λ q. let deep = ap (λ (d : ℕ → ℕ). d w) r.depth ∙ put_at (depth_of ns) (step_to T s) (depth_of ns (step_from T s) + 1) w q in
@@ -81,6 +89,7 @@ module _ (T : Table) (S : Sound T) (f : ℕ → ℕ) (low : ℕ) (ns ms : List M
   grown_step long q = record {
     queued = step_queued q;
     trail = step_trail;
+    stepped = step_stepped;
     kept = step_kept;
     stays = step_stays;
     more = omega arith;
@@ -98,6 +107,7 @@ pub grown_none : (T : Table) (f : ℕ → ℕ) (low : ℕ) (ns : List Mark) (c :
 grown_none T f low ns c q = record {
   queued = q;
   trail = λ u t. t;
+  stepped = λ u r h. h;
   kept = λ v e. e;
   stays = λ i l. refl;
   more = omega arith;
@@ -111,6 +121,7 @@ pub grown_then : (T : Table) (f : ℕ → ℕ) (low : ℕ) (ns ms ls : List Mark
 grown_then T f low ns ms ls a b c g h = record {
   queued = h.queued;
   trail = λ u t. h.trail u (g.trail u t);
+  stepped = λ u r s. h.stepped u (g.kept u r) (g.stepped u r s);
   kept = λ v e. h.kept v (g.kept v e);
   stays = λ i l. h.stays i (omega (arith, g.more)) ∙ g.stays i l;
   more = omega (arith, g.more, h.more);
@@ -128,32 +139,19 @@ links_stay ps ns ms long out into L = record {
   next_into = L.next_into;
 }
 
--- the steps from v: none followed yet, kept as the search goes on, one more, all
+-- the steps from v: kept as the search goes on
 module _ (T : Table) (f : ℕ → ℕ) (low : ℕ) where
-  pub followed_none : (ns : List Mark) (v : ℕ) (along : Bool) → Followed T f low ns v along 0
-  followed_none ns v along k l m a b e = absurd (omega arith)
-
   pub followed_kept : (ns ms : List Mark) (v : ℕ) (along : Bool) (m : ℕ) → ((w : ℕ) → reached_of ns w ≡ true → reached_of ms w ≡ true) →
       Followed T f low ns v along m → Followed T f low ms v along m
   followed_kept ns ms v along m kept h k l n a b e = kept (step_to T (over k along)) (h k l n a b e)
 
-  pub followed_more : (ns : List Mark) (v : ℕ) (along : Bool) (m j : ℕ) → Earliest (leads_from T along v) m (Some j) →
-      (low ≤ j → Free f j along → reached_of ns (step_to T (over j along)) ≡ true) → Followed T f low ns v along m →
-      Followed T f low ns v along (j + 1)
-  followed_more ns v along m j h here F k l n a b e = ⊎_elim
-      (λ q. subst (λ (i : ℕ). reached_of ns (step_to T (over i along)) ≡ true) q (here (omega arith) (subst (λ (i : ℕ). Free f i along) (sym q) e)))
-      (λ d. ⊎_elim
-      (λ x. F k l x a b e)
-      (λ x. absurd (both_ways (leads_from T along v k) (h.2 k x (omega arith)) (leads_at T along v k a b)))
-      (cases_lt k m))
-      (cases_eq j k)
+  -- the step over the place k, if it is free, leads to a node that is reached
+  abbrev pub Made : List Mark → Bool → ℕ → Type 0
+  Made ns along k = low ≤ k → Free f k along → reached_of ns (step_to T (over k along)) ≡ true
 
-  pub followed_all : (ns : List Mark) (v : ℕ) (along : Bool) (m n : ℕ) → Earliest (leads_from T along v) m None → Followed T f low ns v along m →
-      Followed T f low ns v along n
-  followed_all ns v along m n h F k l _ a b e = ⊎_elim
-      (λ x. F k l x a b e)
-      (λ x. absurd (both_ways (leads_from T along v k) (h k x) (leads_at T along v k a b)))
-      (cases_lt k m)
+  pub made_kept : (ns ms : List Mark) (along : Bool) → ((w : ℕ) → reached_of ns w ≡ true → reached_of ms w ≡ true) → (ks : List ℕ) →
+      All (Made ns along) ks → All (Made ms along) ks
+  made_kept ns ms along kept = All-weaker (Made ns along) (Made ms along) (λ k h l e. kept (step_to T (over k along)) (h l e))
 
   finished_kept : (ns ms : List Mark) (v : ℕ) → ((w : ℕ) → reached_of ns w ≡ true → reached_of ms w ≡ true) → Finished T f low ns v →
       Finished T f low ms v
@@ -188,6 +186,11 @@ module _ (T : Table) (u : ℕ) (ns : List Mark) (h : (v : ℕ) → reached_of ns
   pub begun_trail : (f : ℕ → ℕ) (low : ℕ) → TrailOf T f low u ns
   begun_trail f low =
       subst (λ (R : ℕ → Bool). Trail T f low u R (depth_of ns) (via_of ns)) (sym (fun_ext h)) (trail_none T f low u (depth_of ns) (via_of ns))
+
+  pub begun_stepped : stepped_of ns u ≡ false → Stepped u ns
+  begun_stepped e v r =
+      let same : v ≡ u = eqb-true v u (sym (h v) ∙ r) in
+      ap (stepped_of ns) same ∙ e ∙ sym (ap not (eq-eqb v u same))
 
   begun_shallow : u < T.nodes → depth_of ns u ≡ 0 → Shallow T ns
   begun_shallow l d v e =

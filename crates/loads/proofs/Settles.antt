@@ -1,12 +1,11 @@
 -- What shifts along ways come to, and what a search that finds none shows.
 use Rattle.std.proofs.Common.{◌≡◌, ℕ, suc, ◌+◌, ◌-◌, ◌<◌, ◌≤◌, Bool, true, false, ◌⊎◌, List, ◌∷◌, sym, refl, subst, inl, inr, ⊎_elim, add-one, arith}
-use Rattle.std.specs.List.{AllByRecursion}
 use Rattle.std.proofs.lemmas.Bool.{cases_Bool}
 use Rattle.std.proofs.ByRecursion.{All-weaker}
 use Rattle.flow.specs.Table.{Table, Sound}
 use Rattle.flow.specs.Loads.{Loads, FirstTo, Best, Tight, total}
-use Rattle.flow.specs.Ways.{Step, Slack, Shifted, shifted, back}
-use Rattle.flow.specs.Trails.{Came, Shut, slack_of, put}
+use Rattle.flow.specs.Ways.{Step, Shifted, shifted, back}
+use Rattle.flow.specs.Trails.{Found, Shut, slack_of, put}
 use Rattle.flow.proofs.Best.{tight_least}
 use Rattle.flow.proofs.Shifts.{loads_down, shift_keeps}
 use Rattle.flow.proofs.Trails.{slack_le, slack_fits, slack_some, trail_found, reduce_total_lem, reduce_load}
@@ -14,67 +13,46 @@ use Rattle.flow.proofs.Cells.{shifted_after, shifted_against}
 use Rattle.flow.proofs.Search.{shut_tight, shut_settled, first_none, first_settled, first_one, first_vacant, first_kept, least_kept, first_all}
 use Rattle.marks.specs.declared.mark.Mark.{Mark}
 use Rattle.marks.specs.Marks.{reached_of, depth_of, via_of}
-use Rattle.loads.specs.Search.{TrailOf, Sought}
-use Rattle.loads.specs.Walk.{marked_way}
+use Rattle.loads.specs.Search.{Sought}
 use Rattle.loads.specs.Settle.{Reduced, Lowered, SettledTo}
 use Rattle.loads.proofs.Raising.{load_le}
-use Rattle.loads.proofs.Walks.{marked_found}
 
--- what was found over the places from low on was found over all
-pub trail_low : (T : Table) (f : ℕ → ℕ) (low u : ℕ) (ns : List Mark) → TrailOf T f low u ns → TrailOf T f 0 u ns
-trail_low T f low u ns t = record { start = t.start; came = λ w r n. lower w (t.came w r n) }
-  where
-    lower : (w : ℕ) → Came T f low (reached_of ns) (depth_of ns) (via_of ns w) w → Came T f 0 (reached_of ns) (depth_of ns) (via_of ns w) w
-    lower w c = record { arc = c.arc; above = omega arith; to = c.to; from = c.from; deeper = c.deeper; free = c.free }
-
--- a shift by the slack fits, where loads are few: there is room along the way, and something is left against it
-pub slack_room : (T : Table) → Sound T → (f : ℕ → ℕ) → Loads T f → total T f ≤ 4096 → (x : ℕ) (ss : List Step) → x ≤ 4096 →
-    (d : ℕ) → d ≡ slack_of f x ss → (k : ℕ) → f k + d < 65536
-slack_room T S f L few x ss l d e k = omega (arith, load_le T S f L.balanced L.vacant k, slack_le f x ss)
-
-pub slack_all : (T : Table) (f : ℕ → ℕ) (low u v x : ℕ) (ns : List Mark) → TrailOf T f low u ns → reached_of ns v ≡ true →
-    (d : ℕ) → d ≡ slack_of f x (marked_way T ns u v) → AllByRecursion (Slack d f) (marked_way T ns u v)
-slack_all T f low u v x ns t r d e =
-    let w = marked_found T f low u v ns t r in
-    let fits = subst (λ (ss : List Step). AllByRecursion (Slack (slack_of f x ss) f) ss) w.1 (slack_fits f x w.0.steps w.0.free) in
-    subst (λ (y : ℕ). AllByRecursion (Slack y f) (marked_way T ns u v)) (sym e) fits
+-- a shift of so much fits, where loads are few
+pub shift_room : (T : Table) → Sound T → (f : ℕ → ℕ) → Loads T f → total T f ≤ 4096 → (x : ℕ) → x ≤ 4096 → (k : ℕ) → f k + x < 65536
+shift_room T S f L few x l k = omega (arith, load_le T S f L.balanced L.vacant k)
 
 -- shifted from the sink to the source, the total is less
-pub reduced : (T : Table) → Sound T → (f g : ℕ → ℕ) (x : ℕ) (ns : List Mark) → Loads T f → 1 ≤ x → TrailOf T f 0 T.sink ns →
-    reached_of ns T.source ≡ true → (d : ℕ) → d ≡ slack_of f x (marked_way T ns T.sink T.source) →
-    Shifted d (marked_way T ns T.sink T.source) f g → Reduced T f g
-reduced T S f g x ns L l t r d is sh =
-    let found = marked_found T f 0 T.sink T.source ns t r in
-    let w = found.0 in
-    let ways = marked_way T ns T.sink T.source in
-    let moved = subst (λ (ss : List Step). Shifted (slack_of f x ss) ss f g) (sym found.1) (subst (λ (e : ℕ). Shifted e ways f g) is sh) in
+pub reduced : (T : Table) → Sound T → (f g : ℕ → ℕ) (x : ℕ) → Loads T f → 1 ≤ x → (w : Found T f 0 T.sink T.source) (ss : List Step) → w.steps ≡ ss →
+    (d : ℕ) → d ≡ slack_of f x ss → Shifted d ss f g → Reduced T f g
+reduced T S f g x L l w ss e d is sh =
+    let moved = subst (λ (ts : List Step). Shifted (slack_of f x ts) ts f g) (sym e) (subst (λ (y : ℕ). Shifted y ss f g) is sh) in
     let down = loads_down T S (slack_of f x w.steps) w.steps w.way f g moved w.once (slack_fits f x w.steps w.free) L in
     record { loads = down.0; less = omega (arith, down.1, slack_some f x w.steps l w.free) }
 
 -- the arc at k itself is not on a way over the places above k
-pub kept_at : (T : Table) (f h : ℕ → ℕ) (k d : ℕ) (ns : List Mark) (u v : ℕ) → TrailOf T f (k + 1) u ns → reached_of ns v ≡ true →
-    Shifted d (marked_way T ns u v) f h → h k ≡ f k
-kept_at T f h k d ns u v t r sh =
-    let found = marked_found T f (k + 1) u v ns t r in
-    let w = found.0 in
-    shift_keeps d w.steps f h (subst (λ (ss : List Step). Shifted d ss f h) (sym found.1) sh) k
+pub kept_at : (T : Table) (f h : ℕ → ℕ) (k d : ℕ) (u v : ℕ) (w : Found T f (k + 1) u v) (ss : List Step) → w.steps ≡ ss → Shifted d ss f h → h k ≡ f k
+kept_at T f h k d u v w ss e sh =
+    shift_keeps d w.steps f h (subst (λ (ts : List Step). Shifted d ts f h) (sym e) sh) k
     (All-weaker (λ s. k + 1 ≤ s.place) (λ s. s.place ≡ k → ⊥) (λ s m e. omega arith) w.steps w.above)
 
+-- no more is shifted than was asked
+pub most_le : (f : ℕ → ℕ) (x : ℕ) (ss : List Step) (d : ℕ) → d ≡ slack_of f x ss → d ≤ x
+most_le f x ss d e = omega (arith, slack_le f x ss)
+
 -- shifted from the begin of the arc at k to its end, and as much taken from k, the load of k is less
-pub lowered : (T : Table) → Sound T → (f h : ℕ → ℕ) (k : ℕ) (ns : List Mark) → Loads T f → T.arc k ≡ true → 2 ≤ f k →
-    TrailOf T f (k + 1) (T.begin k) ns → reached_of ns (T.end k) ≡ true →
-    (d : ℕ) → d ≡ slack_of f (f k - 1) (marked_way T ns (T.begin k) (T.end k)) → Shifted d (marked_way T ns (T.begin k) (T.end k)) f h →
+pub lowered : (T : Table) → Sound T → (f h : ℕ → ℕ) (k u v : ℕ) → Loads T f → T.arc k ≡ true → T.begin k ≡ u → T.end k ≡ v → 2 ≤ f k →
+    (w : Found T f (k + 1) u v) (ss : List Step) → w.steps ≡ ss → (d : ℕ) → d ≡ slack_of f (f k - 1) ss → Shifted d ss f h →
     Lowered T f (put h k (h k - d)) k
-lowered T S f h k ns L a two t r d is sh =
+lowered T S f h k u v L a begin end two w ss e d is sh =
     let g = put h k (h k - d) in
-    let ways = marked_way T ns (T.begin k) (T.end k) in
-    let up = subst (λ (low : ℕ). TrailOf T f low (T.begin k) ns) (add-one k) t in
-    let found = marked_found T f (suc k) (T.begin k) (T.end k) ns up r in
-    let at_k = kept_at T f h k d ns (T.begin k) (T.end k) t r sh in
-    let most = slack_le f (f k - 1) ways in
-    let both : Shifted d (back k ∷ ways) f g = shifted_after d (back k) ways f h g sh (shifted_against d k h (omega arith)) in
-    let moved = subst (λ (ss : List Step). Shifted (slack_of f (f k - 1) ss) (back k ∷ ss) f g) (sym found.1)
-    (subst (λ (e : ℕ). Shifted e (back k ∷ ways) f g) is both) in
+    let at_k = kept_at T f h k d u v w ss e sh in
+    let most = most_le f (f k - 1) ss d is in
+    let both : Shifted d (back k ∷ ss) f g = shifted_after d (back k) ss f h g sh (shifted_against d k h (omega arith)) in
+    let found = subst (λ (low : ℕ). (x : Found T f low (T.begin k) (T.end k)) × (x.steps ≡ ss)) (add-one k)
+    (subst (λ (y : ℕ). (x : Found T f (k + 1) (T.begin k) y) × (x.steps ≡ ss)) (sym end)
+    (subst (λ (y : ℕ). (x : Found T f (k + 1) y v) × (x.steps ≡ ss)) (sym begin) (w, e))) in
+    let moved = subst (λ (ts : List Step). Shifted (slack_of f (f k - 1) ts) (back k ∷ ts) f g) (sym found.1)
+    (subst (λ (y : ℕ). Shifted y (back k ∷ ss) f g) is both) in
     let all = reduce_load T S f L k a two found.0 g moved in
     record { loads = all.0; same = all.1; below = all.2; less = all.3 }
 

@@ -4,3 +4,4 @@ pub mod Walk
 pub mod Raise
 pub mod Settle
 pub mod Cut
+pub mod Way

@@ -1,8 +1,6 @@
 -- Residual steps: over an arc, along it or against it.
 use Rattle.std.specs.Prelude.{◌≡◌, ℕ, ◌≤◌, Bool, false}
-use Rattle.flow.specs.Table.{Table}
-use Rattle.flow.specs.Ways.{Step, step_from}
-use Rattle.marks.specs.Links.{belongs}
+use Rattle.flow.specs.Ways.{Step}
 
 -- the step over the place k
 abbrev pub over : ℕ → Bool → Step
@@ -12,6 +10,6 @@ over k along = record { place = k; along = along }
 abbrev pub Free : (ℕ → ℕ) → ℕ → Bool → Type 0
 Free f k along = along ≡ false → 2 ≤ f k
 
--- the place k has an arc over which a step from the node v leads: one that begins there or, against, one that ends there
-abbrev pub leads_from : Table → Bool → ℕ → ℕ → Bool
-leads_from T along v = belongs T.arc (λ k. step_from T (over k along)) v
+-- what a step finds at its arc: against it, load to spare
+abbrev pub Spare : (ℕ → ℕ) → Step → Type 0
+Spare f s = s.along ≡ false → 2 ≤ f s.place

@@ -1,15 +1,22 @@
 -- The way that the marks of a search tell, read from its end.
-use Rattle.std.specs.Prelude.{ℕ, zero, suc, cond, List, [], ◌∷◌, ◌==◌}
+use Rattle.std.specs.Prelude.{◌≡◌, ℕ, zero, suc, ◌<◌, true, cond, List, [], ◌∷◌}
 use Rattle.flow.specs.Table.{Table}
 use Rattle.flow.specs.Ways.{Step, step_from}
 use Rattle.marks.specs.declared.mark.Mark.{Mark}
-use Rattle.marks.specs.Marks.{depth_of, via_of}
+use Rattle.marks.specs.Marks.{reached_of, depth_of, via_of}
+use Rattle.loads.specs.Search.{stepped_of}
 
--- at most n steps back from v to u, each the one by which its node was reached, in front of the steps ss
-abbrev pub walk : Table → (ℕ → Step) → ℕ → ℕ → ℕ → List Step → List Step
-walk T via u zero v ss = ss
-walk T via u (suc n) v ss = cond (v == u) ss (walk T via u n (step_from T (via v)) (via v ∷ ss))
+-- from every node that a search came to by a step, that step leads back over an arc, to a node reached before
+abbrev pub LeadsBack : Table → List Mark → Type 0
+LeadsBack T ns = (v : ℕ) → reached_of ns v ≡ true → stepped_of ns v ≡ true →
+    (T.arc (via_of ns v).place ≡ true) × (reached_of ns (step_from T (via_of ns v)) ≡ true) × (depth_of ns (step_from T (via_of ns v)) < depth_of ns v)
 
--- the way from u to v: it has no more steps than v lies deep
-abbrev pub marked_way : Table → List Mark → ℕ → ℕ → List Step
-marked_way T ns u v = walk T (via_of ns) u (suc (depth_of ns v)) v []
+-- at most n steps back from v, the last one first
+abbrev pub steps_back : Table → List Mark → ℕ → ℕ → List Step
+steps_back T ns zero v = []
+steps_back T ns (suc n) v = cond (stepped_of ns v) (via_of ns v ∷ steps_back T ns n (step_from T (via_of ns v))) []
+
+-- steps turned round, in front of others
+abbrev pub turned : List Step → List Step → List Step
+turned [] ss = ss
+turned (s ∷ xs) ss = turned xs (s ∷ ss)

@@ -1,17 +1,21 @@
 //! Loads turned into the best loads: first the total is brought down to the least, then, with the total
 //! and the loads below it kept, the load of each place in ascending number.
-ghost use Rattle.std.specs.Prelude.{◌≡◌, ◌+◌, ◌<◌, ◌≤◌, true, length};
+ghost use Rattle.std.specs.Prelude.{◌≡◌, ◌+◌, ◌<◌, ◌≤◌, true, length, Some};
 ghost use Rattle.flow.specs.Loads.{Loads, Best, total};
 ghost use Rattle.marks.specs.Links.{Linked};
-ghost use Rattle.marks.specs.Marks.{load_of, reached_of};
+ghost use Rattle.marks.specs.Marks.{arc_of, load_of};
 ghost use Rattle.marks.specs.Shown.{shown};
-ghost use Rattle.loads.specs.Search.{TrailOf};
+ghost use Rattle.loads.specs.Search.{Sought};
 ghost use Rattle.loads.specs.Settle.{Reduced, Lowered, SettledTo};
 
 use super::search::search;
-use super::shift::{shift, slack};
+use super::shift::shift_most;
+use super::way::WayBack;
 use marks::arcs::Arcs;
-use marks::mark::Mark;
+use marks::mark::{Arc, Mark};
+
+/// No load is above the total, which is at most this.
+const MOST: u16 = 4096;
 
 /// Takes from the total what the way that a search found from the sink to the source allows.
 fn reduce_total(arcs: Arcs, nodes: &[Mark], loads: &mut [u16])
@@ -19,32 +23,29 @@ fn reduce_total(arcs: Arcs, nodes: &[Mark], loads: &mut [u16])
     requires places { length loads.old ≡ length arcs.marks.now }
     requires loads { Loads (shown arcs) (load_of loads.old) }
     requires few { total (shown arcs) (load_of loads.old) ≤ 4096 }
-    requires trail { TrailOf (shown arcs) (load_of loads.old) 0 arcs.sink nodes.now }
-    requires target { reached_of nodes.now arcs.source ≡ true }
+    requires sought { Sought (shown arcs) (load_of loads.old) 0 arcs.sink arcs.source nodes.now true }
     ensures { Reduced (shown arcs.entry) (load_of loads.old) (load_of loads.new) }
 {
-    let by = slack(arcs, nodes, loads, arcs.sink, arcs.source, 4096);
-    shift(arcs, nodes, loads, arcs.sink, arcs.source, by);
+    let at = arcs.source;
+    let _by = shift_most(WayBack { arcs, nodes, at }, loads, MOST);
 }
 
 /// Takes from the load at the place `k` what the way that a search found from the begin of its arc to
 /// the end allows, and puts it on that way. The arc keeps at least 1.
-fn lower(arcs: Arcs, nodes: &[Mark], loads: &mut [u16], k: usize)
+fn lower(arcs: Arcs, nodes: &[Mark], loads: &mut [u16], k: usize, arc: Arc)
     requires nodes { length nodes.now ≡ arcs.nodes }
     requires places { length loads.old ≡ length arcs.marks.now }
     requires loads { Loads (shown arcs) (load_of loads.old) }
     requires few { total (shown arcs) (load_of loads.old) ≤ 4096 }
     requires place { k < length arcs.marks.now }
-    requires arc { (shown arcs).arc k ≡ true }
+    requires arc { arc_of arcs.marks.now k ≡ Some arc }
     requires spare { 2 ≤ load_of loads.old k }
-    requires trail { TrailOf (shown arcs) (load_of loads.old) (k + 1) ((shown arcs).begin k) nodes.now }
-    requires target { reached_of nodes.now ((shown arcs).end k) ≡ true }
+    requires sought { Sought (shown arcs) (load_of loads.old) (k + 1) arc.begin arc.end nodes.now true }
     ensures { Lowered (shown arcs.entry) (load_of loads.old) (load_of loads.new) k }
 {
-    let from = arcs.marks[k].begin as usize;
-    let to = arcs.marks[k].end as usize;
-    let by = slack(arcs, nodes, loads, from, to, loads[k] - 1);
-    shift(arcs, nodes, loads, from, to, by);
+    let at = arc.end as usize;
+    let spare = loads[k] - 1;
+    let by = shift_most(WayBack { arcs, nodes, at }, loads, spare);
     loads[k] -= by;
 }
 
@@ -77,13 +78,21 @@ fn settle_lead(arcs: Arcs, nodes: &mut [Mark], loads: &mut [u16], k: usize)
     ensures few { total (shown arcs.entry) (load_of loads.new) ≤ 4096 }
     ensures linked { Linked arcs.entry.marks.now nodes.new 0 }
 {
-    let from = arcs.marks[k].begin as usize;
-    let to = arcs.marks[k].end as usize;
+    let Some(arc) = arcs.marks[k].arc else {
+        return;
+    };
     while loads[k] > 1 {
-        if !search(arcs, nodes, loads, k + 1, from, to) {
+        if !search(
+            arcs,
+            nodes,
+            loads,
+            k + 1,
+            arc.begin as usize,
+            arc.end as usize,
+        ) {
             return;
         }
-        lower(arcs, nodes, loads, k);
+        lower(arcs, nodes, loads, k, arc);
     }
 }
 

@@ -30,8 +30,10 @@ fn enters_cut(arcs: Arcs, nodes: &[Mark], k: usize) -> bool
     requires place { k < length arcs.marks.now }
     ensures { result ≡ entering (shown arcs.entry) (reached_of nodes.now) k }
 {
-    let mark = arcs.marks[k];
-    mark.arc && !nodes[mark.begin as usize].reached && nodes[mark.end as usize].reached
+    let Some(arc) = arcs.marks[k].arc else {
+        return false;
+    };
+    nodes[arc.begin as usize].reached.is_none() && nodes[arc.end as usize].reached.is_some()
 }
 
 /// Writes the places whose arcs enter the cut to the front of a row, ascending, and answers how many

@@ -13,15 +13,13 @@ ghost use Rattle.loads.specs.Steps.{over};
 use super::step::step_ends;
 use marks::arcs::Arcs;
 use marks::link::link_of;
-use marks::mark::Mark;
+use marks::mark::{Mark, Step};
 
 /// Puts no load at any place.
 pub fn clear(loads: &mut [u16])
     ensures { (k : ℕ) → load_of loads.new k ≡ 0 }
 {
-    for x in loads.iter_mut() {
-        *x = 0;
-    }
+    loads.fill(0);
 }
 
 /// Adds 1 to the load at the place `j`.
@@ -34,15 +32,14 @@ fn raise(loads: &mut [u16], j: usize)
 }
 
 /// The first arc that begins at the node `v` or, against, the first that ends there.
-fn first_arc(arcs: Arcs, nodes: &[Mark], v: usize, along: bool) -> usize
+fn first_arc(arcs: Arcs, nodes: &[Mark], v: usize, along: bool) -> u16
     requires node { v < length nodes.now }
     requires linked { Linked arcs.marks.now nodes.now 0 }
     requires some { (j : ℕ) × ((shown arcs).arc j ≡ true) × (step_from (shown arcs) (over j along) ≡ v) }
-    ensures place { result < length arcs.entry.marks.now }
     ensures arc { (shown arcs.entry).arc result ≡ true }
     ensures from { step_from (shown arcs.entry) (over result along) ≡ v }
 {
-    link_of(nodes, v, along).unwrap() as usize
+    link_of(nodes, v, along).unwrap()
 }
 
 /// The node at which a chain ends that is followed along its arcs, or against them.
@@ -52,24 +49,24 @@ fn last_node(arcs: Arcs, along: bool) -> usize
     if along { arcs.sink } else { arcs.source }
 }
 
-/// Adds 1 to each load of a chain that goes on from the arc at `k`: along the arcs to the sink, or
+/// Adds 1 to each load of a chain that goes on from a step over an arc: along the arcs to the sink, or
 /// against them to the source. It takes the first arc at each node.
-fn raise_on(arcs: Arcs, nodes: &[Mark], loads: &mut [u16], k: usize, along: bool)
+fn raise_on(arcs: Arcs, nodes: &[Mark], loads: &mut [u16], from: Step)
     requires nodes { length nodes.now ≡ arcs.nodes }
     requires places { length loads.old ≡ length arcs.marks.now }
     requires linked { Linked arcs.marks.now nodes.now 0 }
     requires joined { Joined (shown arcs) }
-    requires place { k < length arcs.marks.now }
-    requires arc { (shown arcs).arc k ≡ true }
+    requires arc { (shown arcs).arc from.place ≡ true }
     requires room { (j : ℕ) → load_of loads.old j ≤ 8192 }
-    ensures { RaisedOn (shown arcs.entry) (load_of loads.old) (load_of loads.new) along (step_to (shown arcs.entry) (over k along)) (far_end (shown arcs.entry) along) }
+    ensures { RaisedOn (shown arcs.entry) (load_of loads.old) (load_of loads.new) from.along (step_to (shown arcs.entry) (over from.place from.along)) (far_end (shown arcs.entry) from.along) }
 {
+    let along = from.along;
     let last = last_node(arcs, along);
-    let mut v = step_ends(arcs, k, along).1;
+    let mut v = step_ends(arcs, from).1;
     while v != last {
-        let j = first_arc(arcs, nodes, v, along);
-        raise(loads, j);
-        v = step_ends(arcs, j, along).1;
+        let place = first_arc(arcs, nodes, v, along);
+        raise(loads, place as usize);
+        v = step_ends(arcs, Step { place, along }).1;
     }
 }
 
@@ -84,9 +81,18 @@ fn raise_through(arcs: Arcs, nodes: &[Mark], loads: &mut [u16], k: usize)
     requires room { (j : ℕ) → load_of loads.old j ≤ 4096 }
     ensures { RaisedThrough (shown arcs.entry) (load_of loads.old) (load_of loads.new) k }
 {
+    let place = k as u16;
     raise(loads, k);
-    raise_on(arcs, nodes, loads, k, true);
-    raise_on(arcs, nodes, loads, k, false);
+    raise_on(arcs, nodes, loads, Step { place, along: true });
+    raise_on(
+        arcs,
+        nodes,
+        loads,
+        Step {
+            place,
+            along: false,
+        },
+    );
 }
 
 /// Fills the load table with loads whose total is at most the number of places.
@@ -100,7 +106,7 @@ pub fn first_loads(arcs: Arcs, nodes: &[Mark], loads: &mut [u16])
 {
     clear(loads);
     for k in 0..arcs.marks.len() {
-        if arcs.marks[k].arc && loads[k] == 0 {
+        if arcs.marks[k].arc.is_some() && loads[k] == 0 {
             raise_through(arcs, nodes, loads, k);
         }
     }

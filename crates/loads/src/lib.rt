@@ -9,6 +9,7 @@ mod first;
 mod search;
 mod shift;
 mod step;
+mod way;
 
 pub use best::settle;
 pub use cut::{mark_cut, write_witness};

@@ -7,12 +7,12 @@ ghost use Rattle.marks.specs.Links.{out_at, into_at, Linked};
 ghost use Rattle.marks.specs.Marks.{load_of, reached_of, depth_of};
 ghost use Rattle.marks.specs.Shown.{shown};
 ghost use Rattle.loads.specs.Steps.{over, Free};
-ghost use Rattle.loads.specs.Search.{queued_at, Finished, Followed, Grown, Queued, Reaches, Sought};
+ghost use Rattle.loads.specs.Search.{queued_at, stepped_of, Finished, Followed, Grown, Queued, Reaches, Sought};
 
 use super::step::{is_free, step_ends};
 use marks::arcs::Arcs;
-use marks::link::link_of;
-use marks::mark::Mark;
+use marks::follow::ArcsAt;
+use marks::mark::{Mark, Reached, Step};
 
 /// Forgets what a search left, and begins one at the node `from`.
 fn begin_search(nodes: &mut [Mark], from: usize)
@@ -20,72 +20,64 @@ fn begin_search(nodes: &mut [Mark], from: usize)
     requires small { length nodes.old ≤ 4096 }
     ensures reached { (v : ℕ) → reached_of nodes.new v ≡ (v == from) }
     ensures depth { depth_of nodes.new from ≡ 0 }
+    ensures start { stepped_of nodes.new from ≡ false }
     ensures queued { queued_at nodes.new 0 ≡ from }
     ensures out { out_at nodes.new ≡ out_at nodes.old }
     ensures into { into_at nodes.new ≡ into_at nodes.old }
 {
-    for v in 0..nodes.len() {
-        nodes[v].reached = false;
+    for node in nodes.iter_mut() {
+        node.reached = None;
     }
-    nodes[from] = Mark {
-        reached: true,
-        depth: 0,
-        ..nodes[from]
-    };
+    nodes[from].reached = Some(Reached { depth: 0, by: None });
     nodes[0].queued = from as u16;
 }
 
-/// Reaches the node `v` from the node `u` by a step over a place, and puts it into the queue.
-fn reach(nodes: &mut [Mark], u: usize, v: usize, place: u16, along: bool, count: usize)
-    requires from { u < length nodes.old }
+/// Reaches the node `v` from the node `u` by a step, and puts it into the queue.
+fn reach(nodes: &mut [Mark], u: usize, v: usize, step: Step, count: usize)
+    requires from { reached_of nodes.old u ≡ true }
     requires to { v < length nodes.old }
     requires queue { count < length nodes.old }
     requires small { length nodes.old ≤ 4096 }
     requires depth { depth_of nodes.old u < 4096 }
-    ensures { Reaches nodes.old nodes.new u v (over place along) count }
+    ensures { Reaches nodes.old nodes.new u v (over step.place step.along) count }
 {
-    let depth = nodes[u].depth + 1;
-    nodes[v] = Mark {
-        reached: true,
+    let depth = nodes[u].reached.unwrap().depth + 1;
+    nodes[v].reached = Some(Reached {
         depth,
-        place,
-        along,
-        ..nodes[v]
-    };
+        by: Some(step),
+    });
     nodes[count].queued = v as u16;
 }
 
-/// Makes the step over the place `k`, from a node that is reached, if the place is from `low` on, the
-/// step is free and it reaches another node. Answers how many nodes are in the queue.
+/// Makes a step from a node that is reached, if its place is from `low` on, the step is free and it
+/// reaches another node. Answers how many nodes are in the queue.
 fn step_over(
     arcs: Arcs,
     nodes: &mut [Mark],
     loads: &[u16],
     low: usize,
-    k: usize,
-    along: bool,
+    step: Step,
     count: usize,
 ) -> usize
     requires nodes { length nodes.old ≡ arcs.nodes }
     requires places { length loads.now ≡ length arcs.marks.now }
-    requires place { k < length arcs.marks.now }
-    requires arc { (shown arcs).arc k ≡ true }
-    requires from { reached_of nodes.old (step_from (shown arcs) (over k along)) ≡ true }
+    requires arc { (shown arcs).arc step.place ≡ true }
+    requires from { reached_of nodes.old (step_from (shown arcs) (over step.place step.along)) ≡ true }
     requires queued { Queued (shown arcs) nodes.old count }
     ensures grown { Grown (shown arcs.entry) (load_of loads.now) low nodes.old nodes.new count result }
-    ensures reaches { low ≤ k → Free (load_of loads.now) k along → reached_of nodes.new (step_to (shown arcs.entry) (over k along)) ≡ true }
+    ensures reaches { low ≤ step.place → Free (load_of loads.now) step.place step.along → reached_of nodes.new (step_to (shown arcs.entry) (over step.place step.along)) ≡ true }
 {
-    let (u, v) = step_ends(arcs, k, along);
-    if k < low {
+    let (u, v) = step_ends(arcs, step);
+    if (step.place as usize) < low {
         return count;
     }
-    if !is_free(loads, k, along) {
+    if !is_free(loads, step) {
         return count;
     }
-    if nodes[v].reached {
+    if nodes[v].reached.is_some() {
         return count;
     }
-    reach(nodes, u, v, k as u16, along, count);
+    reach(nodes, u, v, step, count);
     count + 1
 }
 
@@ -109,10 +101,8 @@ fn follow(
     ensures grown { Grown (shown arcs.entry) (load_of loads.now) low nodes.old nodes.new count result }
     ensures followed { Followed (shown arcs.entry) (load_of loads.now) low nodes.new v along (shown arcs.entry).places }
 {
-    let mut at = link_of(nodes, v, along);
-    while let Some(k) = at {
-        count = step_over(arcs, nodes, loads, low, k as usize, along, count);
-        at = link_of(arcs.marks, k as usize, along);
+    for place in ArcsAt::of_node(nodes, arcs.marks, v, along) {
+        count = step_over(arcs, nodes, loads, low, Step { place, along }, count);
     }
     count
 }
@@ -162,11 +152,11 @@ pub fn search(
     let mut done = 0;
     let mut count = 1;
     while done < count {
-        if nodes[to].reached {
+        if nodes[to].reached.is_some() {
             return true;
         }
         count = expand(arcs, nodes, loads, low, done, count);
         done += 1;
     }
-    nodes[to].reached
+    nodes[to].reached.is_some()
 }

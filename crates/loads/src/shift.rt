@@ -1,49 +1,33 @@
-//! Shifting loads along the way that a search found. The way is read back by the marks, from its end.
+//! Shifting loads along the way that a search found.
 ghost use Rattle.std.specs.Prelude.{◌≡◌, ℕ, ◌+◌, ◌<◌, ◌≤◌, true, false, [], ◌∷◌, length};
 ghost use Rattle.std.specs.List.{AllByRecursion};
-ghost use Rattle.flow.specs.Ways.{Shifted, Slack, step_from};
+ghost use Rattle.flow.specs.Ways.{Once, Shifted, Slack};
 ghost use Rattle.flow.specs.Trails.{slack_of};
-ghost use Rattle.marks.specs.Marks.{load_of, reached_of, via_of};
-ghost use Rattle.marks.specs.Shown.{shown};
-ghost use Rattle.loads.specs.Steps.{over};
-ghost use Rattle.loads.specs.Search.{TrailOf};
-ghost use Rattle.loads.specs.Walk.{marked_way};
+ghost use Rattle.marks.specs.Marks.{load_of};
+ghost use Rattle.loads.specs.Steps.{over, Spare};
+ghost use Rattle.loads.specs.Way.{way_of};
 
-use super::step::step_ends;
-use marks::arcs::Arcs;
-use marks::mark::Mark;
+use super::way::WayBack;
+use marks::mark::Step;
 
-/// The node from which a search came to the node `v`.
-fn came_from(arcs: Arcs, nodes: &[Mark], v: usize) -> usize
-    requires node { v < length nodes.now }
-    requires arc { (shown arcs).arc (via_of nodes.now v).place ≡ true }
-    ensures { result ≡ step_from (shown arcs.entry) (via_of nodes.now v) }
+/// The most that can be shifted along a way: at most `most`, and at most what each load that is stepped
+/// against can spare, which keeps 1.
+fn slack(way: WayBack, loads: &[u16], most: u16) -> u16
+    requires places { length loads.now ≡ length way.arcs.marks.now }
+    requires spare { AllByRecursion (Spare (load_of loads.now)) (way_of way) }
+    ensures { result ≡ slack_of (load_of loads.now) most (way_of way.entry) }
 {
-    step_ends(arcs, nodes[v].place as usize, nodes[v].along).0
-}
-
-/// The most that can be shifted along the way that a search found from `from` to `to`: at most `most`,
-/// and at most what each load that is stepped against can spare, which keeps 1.
-pub fn slack(arcs: Arcs, nodes: &[Mark], loads: &[u16], from: usize, to: usize, most: u16) -> u16
-    requires nodes { length nodes.now ≡ arcs.nodes }
-    requires places { length loads.now ≡ length arcs.marks.now }
-    requires trail { TrailOf (shown arcs) (load_of loads.now) 0 from nodes.now }
-    requires target { reached_of nodes.now to ≡ true }
-    ensures { result ≡ slack_of (load_of loads.now) most (marked_way (shown arcs.entry) nodes.now from to) }
-{
-    let mut v = to;
     let mut least = most;
-    while v != from {
-        if !nodes[v].along {
-            least = least.min(loads[nodes[v].place as usize] - 1);
+    for step in way {
+        if !step.along {
+            least = least.min(loads[step.place as usize] - 1);
         }
-        v = came_from(arcs, nodes, v);
     }
     least
 }
 
 /// Changes the load at the place of a step: by so much more along its arc, or less against it.
-fn change(loads: &mut [u16], step: Mark, by: u16)
+fn change(loads: &mut [u16], step: Step, by: u16)
     requires place { step.place < length loads.old }
     requires along { step.along ≡ true → load_of loads.old step.place + by < 65536 }
     requires against { step.along ≡ false → by ≤ load_of loads.old step.place }
@@ -57,19 +41,29 @@ fn change(loads: &mut [u16], step: Mark, by: u16)
     }
 }
 
-/// Shifts the loads by `by` along the way that a search found from `from` to `to`.
-pub fn shift(arcs: Arcs, nodes: &[Mark], loads: &mut [u16], from: usize, to: usize, by: u16)
-    requires nodes { length nodes.now ≡ arcs.nodes }
-    requires places { length loads.old ≡ length arcs.marks.now }
-    requires trail { TrailOf (shown arcs) (load_of loads.old) 0 from nodes.now }
-    requires target { reached_of nodes.now to ≡ true }
+/// Shifts the loads by `by` along a way.
+fn shift(way: WayBack, loads: &mut [u16], by: u16)
+    requires places { length loads.old ≡ length way.arcs.marks.now }
+    requires once { Once (way_of way) }
     requires room { (k : ℕ) → load_of loads.old k + by < 65536 }
-    requires slack { AllByRecursion (Slack by (load_of loads.old)) (marked_way (shown arcs) nodes.now from to) }
-    ensures { Shifted by (marked_way (shown arcs.entry) nodes.now from to) (load_of loads.old) (load_of loads.new) }
+    requires slack { AllByRecursion (Slack by (load_of loads.old)) (way_of way) }
+    ensures { Shifted by (way_of way.entry) (load_of loads.old) (load_of loads.new) }
 {
-    let mut v = to;
-    while v != from {
-        change(loads, nodes[v], by);
-        v = came_from(arcs, nodes, v);
+    for step in way {
+        change(loads, step, by);
     }
+}
+
+/// Shifts the loads along a way by the most that can be, at most `most`. Answers how much.
+pub fn shift_most(way: WayBack, loads: &mut [u16], most: u16) -> u16
+    requires places { length loads.old ≡ length way.arcs.marks.now }
+    requires once { Once (way_of way) }
+    requires room { (k : ℕ) → load_of loads.old k + most < 65536 }
+    requires spare { AllByRecursion (Spare (load_of loads.old)) (way_of way) }
+    ensures slack { result ≡ slack_of (load_of loads.old) most (way_of way.entry) }
+    ensures shifted { Shifted result (way_of way.entry) (load_of loads.old) (load_of loads.new) }
+{
+    let by = slack(way, loads, most);
+    shift(way, loads, by);
+    by
 }

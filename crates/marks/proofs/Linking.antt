@@ -2,6 +2,7 @@
 use Rattle.std.proofs.Common.{◌≡◌, ℕ, ◌+◌, ◌<◌, ◌≤◌, Bool, true, false, eqb, List, length, Some, None, Option, is_some, sym, refl, ap, ◌∙◌, subst, ⊎_elim, arith}
 use Rattle.std.proofs.lemmas.Bool.{cases_eq, eq-eqb, ne_eqb, and_from, and_left, and_right, both_ways}
 use Rattle.std.proofs.lemmas.List.{get_or_past}
+use Rattle.std.proofs.Props.{props}
 use Rattle.flow.specs.Trails.{put}
 use Rattle.flow.proofs.Seek.{put_at, put_off}
 use Rattle.marks.specs.declared.mark.Mark.{Mark}
@@ -88,3 +89,11 @@ kept_more ps qs rs h k = record {
       ∙ h.classes;
   places = k.places ∙ h.places;
 }
+
+-- links say the same whatever shows it, so a struct can keep the fact
+earliest_prop : (P : ℕ → Bool) (m : ℕ) (o : Option ℕ) → IsProp (Earliest P m o)
+earliest_prop P m None = hlevel props
+earliest_prop P m (Some j) = hlevel props
+
+pub linked_prop : (ps ns : List Mark) (m : ℕ) → IsProp (Linked ps ns m)
+linked_prop ps ns m = hlevel (props, earliest_prop)

@@ -1,6 +1,4 @@
-use Rattle.std.proofs.Common.{ℕ, List, ap, ◌∙◌, arith}
-use Rattle.std.proofs.lemmas.List.{take_all}
-use Rattle.wiring.specs.Lists.{lowered}
+use Rattle.std.proofs.Common.{arith}
 use Rattle.marks.specs.Marks.{load_of}
 use Rattle.listing.proofs.Lowering.{lower_some, lower_within, lower_step}
 use Rattle.listing.proofs.cores.lower.Goals as goal
@@ -21,7 +19,3 @@ bounds-left-lead-in-loop-lead c =
 pub loop-lead-preserved : goal.loop-lead-preserved
 loop-lead-preserved c =
     lower_step c.args.core.now c.loop-lead.lead-index (omega arith) (load_of c.args.left.now) c.loop-lead.left c.requires c.loop-lead.invariant
-
-pub returns : goal.returns
-returns c =
-    c.loop-lead.invariant ∙ ap (λ (xs : List ℕ). lowered (load_of c.args.left.now) xs) (take_all c.loop-lead.lead-index c.args.core.now (omega arith))

@@ -9,7 +9,7 @@ use Rattle.loads.proofs.first.raise_on.Given as goal
 
 abbrev pub invariant-loop-v : goal.invariant-loop-v
 invariant-loop-v l =
-    RaisedOn (shown l.arcs) (load_of l.initial.loads) (load_of l.loads) l.along (step_to (shown l.arcs) (over l.k l.along)) l.v
+    RaisedOn (shown l.arcs) (load_of l.initial.loads) (load_of l.loads) l.along (step_to (shown l.arcs) (over l.fn.from.place l.along)) l.v
     × ((i : ℕ) × ((shown l.arcs).arc i ≡ true) × (l.v ≡ step_to (shown l.arcs) (over i l.along)))
 
 abbrev pub decreases-loop-v : goal.decreases-loop-v

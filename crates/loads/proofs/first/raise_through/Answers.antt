@@ -13,7 +13,6 @@ raise_on-requires c =
       places = omega arith;
       linked = c.requires.linked;
       joined = c.requires.joined;
-      place = c.requires.place;
       arc = c.requires.arc;
       room = λ j. omega (arith, c.requires.room j, c.raise.ensures j, raise_le f c.args.k j);
     }
@@ -32,7 +31,6 @@ raise_on-requires-2 c =
       places = omega arith;
       linked = c.requires.linked;
       joined = c.requires.joined;
-      place = c.requires.place;
       arc = c.requires.arc;
       room = λ j. omega (arith, c.requires.room j, c.raise.ensures j, raise_le f k j, more j);
     }

@@ -3,8 +3,8 @@ use Rattle.marks.specs.Links.{out_at, into_at}
 use Rattle.marks.specs.Marks.{reached_of}
 use Rattle.loads.proofs.search.begin_search.Given as goal
 
-abbrev pub invariant-loop-v : goal.invariant-loop-v
-invariant-loop-v l =
-    ((k : ℕ) → k < l.v → reached_of l.nodes k ≡ false)
+abbrev pub invariant-loop-node : goal.invariant-loop-node
+invariant-loop-node l =
+    ((k : ℕ) → k < l.node-index → reached_of l.nodes k ≡ false)
     × (out_at l.nodes ≡ out_at l.initial.nodes)
     × (into_at l.nodes ≡ into_at l.initial.nodes)

@@ -1,8 +1,8 @@
-use Rattle.std.proofs.Common.{refl, arith}
+use Rattle.std.proofs.Common.{sym, arith}
 use Rattle.marks.specs.Marks.{load_of}
 use Rattle.marks.specs.Shown.{shown}
 use Rattle.marks.proofs.Fields.{shown_sound}
-use Rattle.loads.proofs.Searches.{begun_trail, begun_queued, links_stay, finished_more, finished_shut}
+use Rattle.loads.proofs.Searches.{begun_trail, begun_stepped, begun_queued, links_stay, finished_more, finished_shut}
 use Rattle.loads.proofs.search.search.Goals as goal
 
 pub loop-done-init : goal.loop-done-init
@@ -16,6 +16,7 @@ loop-done-init c =
       links_stay c.args.arcs.marks.now c.args.nodes.now ns c.begin_search.auto.nodes begun.out begun.into c.requires.linked,
       (λ i l. absurd (omega arith)),
       omega arith,
+      begun_stepped T u ns begun.reached begun.start,
     )
 
 pub loop-done-preserved : goal.loop-done-preserved
@@ -32,6 +33,7 @@ loop-done-preserved c =
       links_stay c.args.arcs.marks.now ns ms g.long g.out g.into inv.2,
       finished_more T f c.args.low ns ms c.loop-done.done c.loop-done.count c.expand-count.result c.loop-done-test.true g inv.3 last,
       omega (arith, g.more),
+      g.stepped c.args.from inv.0.start inv.5,
     )
 
 pub returns : goal.returns
@@ -43,7 +45,8 @@ returns c =
     record {
       sought = record {
         trail = inv.0;
-        target = refl;
+        stepped = inv.5;
+        target = sym c.is_some-2.ensures;
         shut = λ e. finished_shut T f c.args.low (shown_sound arcs) c.loop-done.nodes c.loop-done.count inv.1 (λ i l. inv.3 i (omega arith));
       };
       linked = inv.2;

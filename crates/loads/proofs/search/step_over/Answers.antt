@@ -1,4 +1,4 @@
-use Rattle.std.proofs.Common.{◌≡◌, ℕ, true, false, sym, subst, arith}
+use Rattle.std.proofs.Common.{◌≡◌, ℕ, true, false, sym, ◌∙◌, subst, arith}
 use Rattle.flow.specs.Ways.{step_from}
 use Rattle.flow.specs.Trails.{Opens}
 use Rattle.marks.specs.Marks.{load_of, reached_of}
@@ -17,12 +17,13 @@ reach-requires c =
     let ns = c.args.nodes.now in
     let u = c.step_ends-u.result.0 in
     let v = c.step_ends-u.result.1 in
-    let inside = step_inside T (shown_sound arcs) (over c.args.k c.args.along) c.requires.arc in
+    let inside = step_inside T (shown_sound arcs) (over c.args.step.place c.args.step.along) c.requires.arc in
+    let none : reached_of ns v ≡ false = sym c.is_some.ensures ∙ c.if-is_some.false in
     let from = subst (λ (w : ℕ). reached_of ns w ≡ true) (sym c.step_ends-u.ensures.from) c.requires.from in
     record {
-      from = omega (arith, inside.0);
+      from = from;
       to = omega (arith, inside.1);
-      queue = omega (arith, queue_room T ns c.args.count v c.requires.queued (omega (arith, inside.1)) c.if-nodes-v.false);
+      queue = omega (arith, queue_room T ns c.args.count v c.requires.queued (omega (arith, inside.1)) none);
       small = omega arith;
       depth = omega (arith, c.requires.queued.shallow u from);
     }
@@ -36,7 +37,7 @@ returns c =
     let count = c.args.count in
     let ns = c.args.nodes.now in
     let ms = c.reach.new.nodes in
-    let s = over c.args.k c.args.along in
+    let s = over c.args.step.place c.args.step.along in
     let v = c.step_ends-u.result.1 in
     let ends = c.step_ends-u.ensures in
     let opens : Opens T f low (reached_of ns) s =
@@ -44,7 +45,7 @@ returns c =
       arc = c.requires.arc;
       above = omega arith;
       from = c.requires.from;
-      to = subst (λ (w : ℕ). reached_of ns w ≡ false) ends.to c.if-nodes-v.false;
+      to = subst (λ (w : ℕ). reached_of ns w ≡ false) ends.to (sym c.is_some.ensures ∙ c.if-is_some.false);
       free = c.is_free.ensures.only c.if-not-is_free.false;
     } in
     let reaches = subst (λ (w : ℕ). Reaches ns ms (step_from T s) w s count) ends.to

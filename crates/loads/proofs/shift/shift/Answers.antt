@@ -1,65 +1,59 @@
-use Rattle.std.proofs.Common.{suc, List, [], ◌∷◌, refl, subst, arith}
+use Rattle.std.proofs.Common.{◌≡◌, true, suc, List, sym, ap, arith}
 use Rattle.flow.specs.Ways.{Step, Shifted, Slack}
 use Rattle.flow.proofs.Cuts.{arc_inside}
 use Rattle.flow.proofs.Cells.{shifted_none, shifted_after}
-use Rattle.marks.specs.Marks.{load_of, depth_of, via_of}
+use Rattle.marks.specs.Marks.{load_of, depth_of}
 use Rattle.marks.specs.Shown.{shown}
 use Rattle.marks.proofs.Fields.{shown_sound}
-use Rattle.loads.proofs.Walks.{walk_start, walk_next, walk_end, walked_all, unchanged}
+use Rattle.loads.specs.Way.{flow_step, steps_left}
+use Rattle.loads.proofs.Walks.{back_arcs, walked_none, walked_more, walked_end, back_at, way_at, unchanged}
 use Rattle.loads.proofs.shift.shift.Goals as goal
 
-pub loop-v-init : goal.loop-v-init
-loop-v-init c =
-    let f = load_of c.args.loads.now in
-    let ns = c.args.nodes.now in
-    let to = c.args.to in
-    ([], suc (depth_of ns to), walk_start (shown c.args.arcs) f 0 c.args.from to ns c.requires.target, shifted_none c.args.by f)
+pub loop-step-init : goal.loop-step-init
+loop-step-init c =
+    let f = load_of c.args.loads.now in (
+      tt,
+      tt,
+      walked_none (steps_left c.args.way) (steps_left c.into_iter-step-iterator.result) (λ ss. Shifted c.args.by ss f f)
+          (ap steps_left (sym c.into_iter-step-iterator.ensures.into_iter_gives)) (shifted_none c.args.by f),
+    )
 
 pub change-requires : goal.change-requires
 change-requires c =
-    let arcs = c.args.arcs in
-    let T = shown arcs in
+    let w = c.args.way in
+    let T = shown w.arcs in
     let f = load_of c.args.loads.now in
-    let g = load_of c.loop-v.loads in
-    let ns = c.args.nodes.now in
-    let from = c.args.from in
-    let to = c.args.to in
+    let g = load_of c.loop-step.loads in
     let by = c.args.by in
-    let v = c.loop-v.v in
-    let s = via_of ns v in
-    let inv = c.loop-v.invariant in
-    let ss = inv.0 in
-    let came = c.requires.trail.came v inv.2.here c.loop-v-test.true in
-    let next = walk_next T f 0 from to ns c.requires.trail v ss inv.1 inv.2 c.loop-v-test.true _ refl in
-    let as_was = unchanged T f 0 from to ns _ s ss next.0 next.1 by g inv.3 in
+    let s = flow_step c.in-Some.step in
+    let all = steps_left w in
+    let left = steps_left c.loop-step.step-iterator in
+    let more = steps_left c.next.new.self in
+    let Q : List Step → Type 0 = λ ss. Shifted by ss f g in
+    let W = c.loop-step.invariant.2 in
+    let e = c.in-Some.ensures.steps in
+    let arc = back_at all left more s Q W e (λ t. T.arc t.place ≡ true) (back_arcs T w.nodes.now w.back (suc (depth_of w.nodes.now w.at)) w.at w.reached) in
+    let as_was = unchanged all left more s by f g W e c.requires.once in
     record {
-      place = omega (arith, arc_inside T (shown_sound arcs) s.place came.arc);
-      along = λ e. omega (arith, c.requires.room s.place);
-      against = λ e. omega (arith, (walked_all T f 0 from to ns (Slack by f) _ (s ∷ ss) next.0 next.1 c.requires.slack).0 e);
+      place = omega (arith, arc_inside T (shown_sound w.arcs) s.place arc);
+      along = λ _. omega (arith, c.requires.room s.place);
+      against = λ a. omega (arith, way_at all left more s Q W e (Slack by f) c.requires.slack a);
     }
 
-pub loop-v-preserved : goal.loop-v-preserved
-loop-v-preserved c =
-    let T = shown c.args.arcs in
+pub loop-step-preserved : goal.loop-step-preserved
+loop-step-preserved c =
     let f = load_of c.args.loads.now in
-    let ns = c.args.nodes.now in
-    let from = c.args.from in
-    let to = c.args.to in
-    let v = c.loop-v.v in
-    let s = via_of ns v in
-    let inv = c.loop-v.invariant in
-    let ss = inv.0 in
-    let next = walk_next T f 0 from to ns c.requires.trail v ss inv.1 inv.2 c.loop-v-test.true c.came_from-v.result c.came_from-v.ensures in (
-      s ∷ ss,
-      next.0,
-      next.1,
-      shifted_after c.args.by s ss f (load_of c.loop-v.loads) (load_of c.change.new.loads) inv.3 c.change.ensures,
+    let g = load_of c.loop-step.loads in
+    let h = load_of c.change.new.loads in
+    let by = c.args.by in
+    let s = flow_step c.in-Some.step in (
+      tt,
+      tt,
+      walked_more (steps_left c.args.way) (steps_left c.loop-step.step-iterator) (steps_left c.next.new.self) s (λ ss. Shifted by ss f g)
+          c.loop-step.invariant.2 c.in-Some.ensures.steps (λ ss. Shifted by ss f h) (λ ss k. shifted_after by s ss f g h k c.change.ensures),
     )
 
 pub returns : goal.returns
 returns c =
-    let T = shown c.args.arcs in
-    let f = load_of c.args.loads.now in
-    let inv = c.loop-v.invariant in
-    let all = walk_end T f 0 c.args.from c.args.to c.args.nodes.now c.loop-v.v inv.0 inv.1 inv.2 c.loop-v-test.false in
-    subst (λ (ss : List Step). Shifted c.args.by ss f (load_of c.loop-v.loads)) all inv.3
+    walked_end (steps_left c.args.way) (steps_left c.loop-step.step-iterator) (λ ss. Shifted c.args.by ss (load_of c.args.loads.now) (load_of c.loop-step.loads))
+    c.loop-step.invariant.2 c.in-None.ensures.steps.0

@@ -1,14 +1,10 @@
-use Rattle.std.proofs.Common.{ℕ, List}
-use Rattle.flow.specs.Ways.{Step, Shifted}
-use Rattle.marks.specs.Marks.{load_of, depth_of}
-use Rattle.marks.specs.Shown.{shown}
-use Rattle.loads.proofs.Walks.{Walking}
+use Rattle.flow.specs.Ways.{Shifted}
+use Rattle.marks.specs.Marks.{load_of}
+use Rattle.loads.specs.Way.{steps_left}
+use Rattle.loads.proofs.Walks.{WalkedTo}
 use Rattle.loads.proofs.shift.shift.Given as goal
 
-abbrev pub invariant-loop-v : goal.invariant-loop-v
-invariant-loop-v l = (ss : List Step) × (n : ℕ)
-    × Walking (shown l.arcs) (load_of l.initial.loads) 0 l.from l.to l.nodes l.v ss n
-    × Shifted l.by ss (load_of l.initial.loads) (load_of l.loads)
-
-abbrev pub decreases-loop-v : goal.decreases-loop-v
-decreases-loop-v l = depth_of l.nodes l.v
+abbrev pub invariant-loop-step : goal.invariant-loop-step
+invariant-loop-step l =
+    (goal.iterator-loop-step).can_next l.step-iterator × (goal.iterator-loop-step).is_finite l.step-iterator
+    × WalkedTo (steps_left l.way) (steps_left l.step-iterator) (λ ss. Shifted l.by ss (load_of l.initial.loads) (load_of l.loads))

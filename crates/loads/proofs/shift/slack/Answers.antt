@@ -1,53 +1,77 @@
-use Rattle.std.proofs.Common.{◌≡◌, suc, ◌-◌, min, List, [], ◌∷◌, sym, refl, ap, ◌∙◌, arith}
+use Rattle.std.proofs.Common.{◌≡◌, true, suc, ◌-◌, ◌<◌, List, length, min, sym, refl, ap, ◌∙◌, arith}
+use Rattle.std.proofs.lemmas.Bool.{not-true, not-false}
 use Rattle.flow.specs.Ways.{Step}
 use Rattle.flow.specs.Trails.{slack_of}
 use Rattle.flow.proofs.Cuts.{arc_inside}
-use Rattle.marks.specs.Marks.{load_of, depth_of, via_of}
+use Rattle.marks.specs.Marks.{load_of, depth_of}
 use Rattle.marks.specs.Shown.{shown}
 use Rattle.marks.proofs.Fields.{shown_sound}
-use Rattle.loads.proofs.Walks.{walk_start, walk_next, walk_end, slack_along, slack_against}
+use Rattle.loads.specs.Steps.{Spare}
+use Rattle.loads.specs.Way.{flow_step, steps_left}
+use Rattle.loads.proofs.Walks.{back_arcs, walked_none, walked_more, walked_end, back_at, way_at, slack_along, slack_against}
 use Rattle.loads.proofs.shift.slack.Goals as goal
-use Rattle.loads.proofs.shift.slack.Goals.{then-not-nodes-v, else-not-nodes-v}
+use Rattle.loads.proofs.shift.slack.Goals.{In-Some}
 
-pub loop-v-init : goal.loop-v-init
-loop-v-init c =
+pub loop-step-init : goal.loop-step-init
+loop-step-init c =
+    let f = load_of c.args.loads.now in (
+      tt,
+      tt,
+      walked_none (steps_left c.args.way) (steps_left c.into_iter-step-iterator.result) (λ ss. c.args.most ≡ slack_of f c.args.most ss)
+          (ap steps_left (sym c.into_iter-step-iterator.ensures.into_iter_gives)) refl,
+    )
+
+-- what is known of the step at hand: it is over an arc, and against it there is load to spare
+at_hand : (c : In-Some) → (c.in-Some.step.place < length c.args.loads.now) × Spare (load_of c.args.loads.now) (flow_step c.in-Some.step)
+at_hand c =
+    let w = c.args.way in
+    let T = shown w.arcs in
     let f = load_of c.args.loads.now in
-    let ns = c.args.nodes.now in
-    let to = c.args.to in
-    ([], suc (depth_of ns to), walk_start (shown c.args.arcs) f 0 c.args.from to ns c.requires.target, refl)
+    let s = flow_step c.in-Some.step in
+    let all = steps_left w in
+    let left = steps_left c.loop-step.step-iterator in
+    let more = steps_left c.next.new.self in
+    let Q : List Step → Type 0 = λ ss. c.loop-step.least ≡ slack_of f c.args.most ss in
+    let W = c.loop-step.invariant.2 in
+    let e = c.in-Some.ensures.steps in
+    let arc = back_at all left more s Q W e (λ t. T.arc t.place ≡ true) (back_arcs T w.nodes.now w.back (suc (depth_of w.nodes.now w.at)) w.at w.reached) in
+    (omega (arith, arc_inside T (shown_sound w.arcs) s.place arc), way_at all left more s Q W e (Spare f) c.requires.spare)
 
-pub bounds-loads-nodes : goal.bounds-loads-nodes
-bounds-loads-nodes c =
-    let arcs = c.args.arcs in
-    let came = c.requires.trail.came c.loop-v.v c.loop-v.invariant.2.here c.loop-v-test.true in
-    omega (arith, arc_inside (shown arcs) (shown_sound arcs) (via_of c.args.nodes.now c.loop-v.v).place came.arc)
+pub bounds-loads-step : goal.bounds-loads-step
+bounds-loads-step c = (at_hand (goal.at.bounds-loads-step c).In-Some).0
 
-pub loop-v-preserved : goal.loop-v-preserved
-loop-v-preserved c =
-    let T = shown c.args.arcs in
+pub overflow_sub-loads : goal.overflow_sub-loads
+overflow_sub-loads c =
+    omega (arith, (at_hand (goal.at.overflow_sub-loads c).In-Some).1 (not-true c.in-Some.step.along c.if-not-step.true))
+
+pub loop-step-preserved-then-not-step : goal.loop-step-preserved-then-not-step
+loop-step-preserved-then-not-step c =
     let f = load_of c.args.loads.now in
-    let ns = c.args.nodes.now in
-    let u = c.args.from in
-    let to = c.args.to in
     let most = c.args.most in
-    let v = c.loop-v.v in
-    let s = via_of ns v in
-    let inv = c.loop-v.invariant in
-    let ss = inv.0 in
-    let next = walk_next T f 0 u to ns c.requires.trail v ss inv.1 inv.2 c.loop-v-test.true c.came_from-v.result c.came_from-v.ensures in
-    let least : c.if-not-nodes-v.least ≡ slack_of f most (s ∷ ss) =
-    elim c.if-not-nodes-v.branch [
-      | then-not-nodes-v w ↦
-          let less : c.if-not-nodes-v.least ≡ min (f s.place - 1) (slack_of f most ss) = omega (arith, w.least-is, w.min-least.ensures) in
-          less ∙ sym (slack_against f most s ss w.if-not-nodes-v.true)
-      | else-not-nodes-v w ↦ w.least-is ∙ inv.3 ∙ sym (slack_along f most s ss w.if-not-nodes-v.false)
-    ] in
-    (s ∷ ss, next.0, next.1, least)
+    let s = flow_step c.in-Some.step in
+    let less : (ss : List Step) → c.loop-step.least ≡ slack_of f most ss → c.min-least.result ≡ min (f s.place - 1) (slack_of f most ss) =
+    λ ss e. omega (arith, c.min-least.ensures) in (
+      tt,
+      tt,
+      walked_more (steps_left c.args.way) (steps_left c.loop-step.step-iterator) (steps_left c.next.new.self) s
+          (λ ss. c.loop-step.least ≡ slack_of f most ss) c.loop-step.invariant.2 c.in-Some.ensures.steps (λ ss. c.min-least.result ≡ slack_of f most ss)
+          (λ ss e. less ss e ∙ sym (slack_against f most s ss (not-true s.along c.if-not-step.true))),
+    )
+
+pub loop-step-preserved : goal.loop-step-preserved
+loop-step-preserved c =
+    let f = load_of c.args.loads.now in
+    let most = c.args.most in
+    let s = flow_step c.in-Some.step in (
+      tt,
+      tt,
+      walked_more (steps_left c.args.way) (steps_left c.loop-step.step-iterator) (steps_left c.next.new.self) s
+          (λ ss. c.loop-step.least ≡ slack_of f most ss) c.loop-step.invariant.2 c.in-Some.ensures.steps (λ ss. c.loop-step.least ≡ slack_of f most ss)
+          (λ ss e. e ∙ sym (slack_along f most s ss (not-false s.along c.if-not-step.false))),
+    )
 
 pub returns : goal.returns
 returns c =
-    let T = shown c.args.arcs in
     let f = load_of c.args.loads.now in
-    let inv = c.loop-v.invariant in
-    let all = walk_end T f 0 c.args.from c.args.to c.args.nodes.now c.loop-v.v inv.0 inv.1 inv.2 c.loop-v-test.false in
-    inv.3 ∙ ap (λ (ss : List Step). slack_of f c.args.most ss) all
+    walked_end (steps_left c.args.way) (steps_left c.loop-step.step-iterator) (λ ss. c.loop-step.least ≡ slack_of f c.args.most ss)
+    c.loop-step.invariant.2 c.in-None.ensures.steps.0
