@@ -20,7 +20,8 @@ use Rattle.drawing.proofs.Whole.{drawing_ends_lem}
 use Rattle.drawing.specs.Claims.{DrawnFrom}
 use Rattle.loads.specs.Cut.{entered}
 use Rattle.listing.specs.declared.links.Links.{Links}
-use Rattle.listing.specs.Shows.{types_in, Shows}
+use Rattle.listing.specs.Shows.{Shows}
+use Rattle.listing.specs.Whole.{Whole}
 use Rattle.listing.specs.Costs.{WordsNumber}
 use Rattle.chooser.specs.Ready.{Ready}
 use Rattle.chooser.proofs.Shown.{shown_arcs}
@@ -33,14 +34,16 @@ module _ {D : Type 0} {K : Kind D} (L : Laws K) {N : Net D} {ns ps : List Mark} 
       ∙ shown_arcs R.sound R.two (classes ps) ps R.arcs (length ns) (length ns - 1) R.nodes (ap (λ n. n - 1) R.nodes)
       ∙ ap (λ (qs : List Mark). arc_table N (classes qs)) (sym at)
 
-  pub ready_shows : (l : Links) → l.arcs ≡ a → l.nodes.now ≡ ns → a.nodes ≡ length ns → Shows K N l
-  ready_shows l e f n = record {
+  -- its nodes are linked
+  pub ready_whole : (ms : List Mark) → ms ≡ ns → a.nodes ≡ length ns → Whole a ms
+  ready_whole ms f n = record {
+    nodes = ap length f ∙ sym n;
+    linked = subst (λ (qs : List Mark). Linked qs ms 0) (sym at) (subst (λ (qs : List Mark). Linked ps qs 0) (sym f) R.linked);
+  }
+
+  pub ready_shows : (l : Links) → l.arcs ≡ a → Shows K N l
+  ready_shows l e = record {
     sound = R.sound;
-    whole = record {
-      nodes = ap length f ∙ sym n ∙ ap (λ (x : Arcs). x.nodes) (sym e);
-      linked = subst (λ (x : Arcs). Linked x.marks.now l.nodes.now 0) (sym e)
-          (subst (λ (qs : List Mark). Linked qs l.nodes.now 0) (sym at) (subst (λ (ms : List Mark). Linked ps ms 0) (sym f) R.linked));
-    };
     types = subst (λ (x : Arcs). Types K N (classes x.marks.now)) (sym e) (subst (λ (qs : List Mark). Types K N (classes qs)) (sym at) R.types);
     arcs = subst (λ (x : Arcs). shown x ≡ arc_table N (classes x.marks.now)) (sym e) in_view;
   }
@@ -59,12 +62,10 @@ module _ {D : Type 0} {K : Kind D} (L : Laws K) {N : Net D} {ns ps : List Mark} 
       ∙ same_total R.sound (classes ps) (load_of xs)
       ∙ sym drawn.number
 
-  pub words_short : (l : Links) → l.arcs ≡ a → (row witness : List ℕ) (n : ℕ) → WordsNumber N (types_in l) (load_of xs) n → length row < n →
-      RowShort K N row witness
-  words_short l e row witness n W h =
+  pub words_short : (row witness : List ℕ) (n : ℕ) → WordsNumber N (classes a.marks.now) (load_of xs) n → length row < n → RowShort K N row witness
+  words_short row witness n W h =
       let number : length (words drawn.list) ≡ n =
-      W drawn.list (subst (λ (x : Arcs). Draws N (classes x.marks.now) (load_of xs) drawn.list) (sym e)
-      (subst (λ (qs : List Mark). Draws N (classes qs) (load_of xs) drawn.list) (sym at) drawn.draws)) in
+      W drawn.list (subst (λ (qs : List Mark). Draws N (classes qs) (load_of xs) drawn.list) (sym at) drawn.draws) in
       for_words drawn.list (is_list drawn.list drawn.draws) (omega arith)
 
   pub witness_short : (row witness : List ℕ) (n : ℕ) → n ≡ total (shown a) (load_of xs) → length witness < n → RowShort K N row witness

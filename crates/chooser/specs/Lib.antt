@@ -1,3 +1,4 @@
 pub mod Loaded
 pub mod Ready
+pub mod Sizes
 pub mod Written

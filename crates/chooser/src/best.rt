@@ -1,18 +1,20 @@
 //! The best loads of a wiring.
-ghost use Rattle.std.specs.Prelude.{◌≡◌, ◌-◌, ◌≤◌, length, take, drop, Ok, Err};
+ghost use Rattle.std.specs.Prelude.{◌≡◌, ◌+◌, ◌-◌, ◌≤◌, length};
 ghost use Rattle.wiring.specs.Net.{Sound};
 ghost use Rattle.lengths.specs.Asked.{Filled};
-ghost use Rattle.lengths.specs.Tables.{Untouched};
-ghost use Rattle.marks.specs.Marks.{table as table_of, ArcsSound, ArcsFit};
+ghost use Rattle.lengths.specs.Tables.{Refilled};
+ghost use Rattle.flow.specs.Loads.{Best};
+ghost use Rattle.flow.specs.Table.{Joined};
+ghost use Rattle.marks.specs.Links.{Linked};
+ghost use Rattle.marks.specs.Marks.{table as table_of, load_of, ArcsSound, ArcsFit};
 ghost use Rattle.marks.specs.Shown.{shown};
-ghost use Rattle.filling.specs.Refilled.{Refilled};
-ghost use Rattle.chooser.specs.Loaded.{HoldsBest, NotLoaded};
+ghost use Rattle.filling.specs.Fitted.{Fits, Measured};
+ghost use Rattle.chooser.specs.Loaded.{HoldsBest};
 ghost use Rattle.chooser.specs.Ready.{Ready};
-ghost use Rattle.drawing.specs.Room.{RoomFor};
 
+use crate::tables::Tables;
 use delay::Delay;
-use filling::measure::{measure_from, measure_to};
-use filling::prepare::prepare;
+use filling::fitted::Fitted;
 use lengths::check::check;
 use lengths::table::{FillError, Lengths};
 use listing::count::count_paths;
@@ -40,100 +42,104 @@ pub(crate) fn arcs_of(places: &[Mark], nodes: usize) -> Arcs<'_>
     }
 }
 
-/// Fills the tables from a wiring of two nodes or more, and finds its best loads: some loads first, and
-/// from them the best ones.
-pub(crate) fn find_loads<D: Delay, W: Wiring<D>>(
-    w: &W,
-    to: &mut Lengths<D>,
-    from: &mut Lengths<D>,
-    nodes: &mut [Mark],
-    places: &mut [Mark],
-    loads: &mut [u16],
-)
-    requires sound { Sound D.Delay.kind (W.Wiring.net w.now) }
-    requires two { 2 ≤ (W.Wiring.net w.now).nodes }
-    requires nodes { length nodes.old ≡ (W.Wiring.net w.now).nodes }
-    requires places { length places.old ≡ (W.Wiring.net w.now).places }
-    requires loads { length loads.old ≡ (W.Wiring.net w.now).places }
-    requires to_room { (W.Wiring.net w.now).nodes ≤ length to.old.table.now }
-    requires from_room { (W.Wiring.net w.now).nodes ≤ length from.old.table.now }
-    ensures filled { Filled D.Delay.kind (W.Wiring.net w.now) to.new.table.now from.new.table.now }
-    ensures ready { Ready D.Delay.kind (W.Wiring.net w.now) nodes.new places.new loads.new }
-    ensures to_rest { Refilled (W.Wiring.net w.now).nodes to.old to.new }
-    ensures from_rest { Refilled (W.Wiring.net w.now).nodes from.old from.new }
+/// Finds the best loads of the arcs at the places: some loads first, and from them the best ones.
+fn balance(nodes: &mut [Mark], places: &mut [Mark], loads: &mut [u16])
+    requires sound { ArcsSound places.old (length nodes.old) 0 (length nodes.old - 1) }
+    requires fits { ArcsFit places.old (length nodes.old) 0 (length nodes.old - 1) }
+    requires loads { length loads.old ≡ length places.old }
+    requires linked { Linked places.old nodes.old 0 }
+    requires joined { Joined (table_of places.old (length nodes.old) 0 (length nodes.old - 1)) }
+    ensures best { Best (table_of places.new (length nodes.new) 0 (length nodes.new - 1)) (load_of loads.new) }
+    ensures linked { Linked places.new nodes.new 0 }
+    ensures places { places.new ≡ places.old }
 {
-    prepare(w, to, from, nodes, places);
     let arcs = arcs_of(places, nodes.len());
     first_loads(arcs, nodes, loads);
     settle(arcs, nodes, loads);
 }
 
+/// Fills the tables from a wiring of two nodes or more, and finds its best loads.
+pub(crate) fn find_loads<D: Delay, W: Wiring<D>>(w: &W, tables: &mut Fitted<D>, loads: &mut [u16])
+    requires sound { Sound D.Delay.kind (W.Wiring.net w.now) }
+    requires two { 2 ≤ (W.Wiring.net w.now).nodes }
+    requires fits { Fits (W.Wiring.net w.now) tables.old }
+    requires loads { length loads.old ≡ (W.Wiring.net w.now).places }
+    ensures measured { Measured D.Delay.kind (W.Wiring.net w.now) tables.old tables.new }
+    ensures ready { Ready D.Delay.kind (W.Wiring.net w.now) tables.new.nodes.now tables.new.places.now loads.new }
+{
+    tables.prepare(w);
+    balance(tables.nodes, tables.places, loads);
+}
+
 /// Fills the tables from a wiring and finds its best loads; answers their total.
-fn settle_loads<D: Delay, W: Wiring<D>>(
+fn settle_loads<'a, D: Delay, W: Wiring<D>>(
     w: &W,
-    to: &mut Lengths<D>,
-    from: &mut Lengths<D>,
-    nodes: &mut [Mark],
-    places: &mut [Mark],
+    to: &mut Lengths<'a, D>,
+    from: &mut Lengths<'a, D>,
+    marks: &mut [Mark],
     loads: &mut [u16],
 ) -> usize
     requires sound { Sound D.Delay.kind (W.Wiring.net w.now) }
-    requires nodes { length nodes.old ≡ (W.Wiring.net w.now).nodes }
-    requires places { length places.old ≡ (W.Wiring.net w.now).places }
-    requires loads { length loads.old ≡ (W.Wiring.net w.now).places }
     requires to_room { (W.Wiring.net w.now).nodes ≤ length to.old.table.now }
     requires from_room { (W.Wiring.net w.now).nodes ≤ length from.old.table.now }
+    requires marks { (W.Wiring.net w.now).nodes + (W.Wiring.net w.now).places ≤ length marks.old }
+    requires loads { length loads.old ≡ (W.Wiring.net w.now).places }
     ensures filled { Filled D.Delay.kind (W.Wiring.net w.now) to.new.table.now from.new.table.now }
     ensures best { HoldsBest D.Delay.kind (W.Wiring.net w.now) loads.new result }
     ensures to_rest { Refilled (W.Wiring.net w.now).nodes to.old to.new }
     ensures from_rest { Refilled (W.Wiring.net w.now).nodes from.old from.new }
 {
+    let (nodes, rest) = marks.split_at_mut(w.nodes());
+    let places = &mut rest[..w.places()];
+    let mut tables = Fitted {
+        to,
+        from,
+        nodes,
+        places,
+    };
     // where there is no lead, there are not even two poles
-    if nodes.len() < FEWEST_NODES {
-        measure_from(w, from, nodes, places);
-        measure_to(w, to, nodes, places);
+    if w.nodes() < FEWEST_NODES {
+        tables.measure(w);
         clear(loads);
         return 0;
     }
-    find_loads(w, to, from, nodes, places, loads);
-    count_paths(arcs_of(places, nodes.len()), loads)
+    find_loads(w, &mut tables, loads);
+    count_paths(arcs_of(tables.places, w.nodes()), loads)
 }
 
-/// Checks a wiring, fills both length tables and the load table, and answers the total of the best
-/// loads. Entries past the nodes and past the places stay; the mark table is scratch. A refusal leaves
-/// all tables as they were: a fault of the wiring is told before a table that is too short.
-pub fn best_loads<D: Delay, W: Wiring<D>>(
-    w: &W,
-    to: &mut Lengths<D>,
-    from: &mut Lengths<D>,
-    loads: &mut [u16],
-    marks: &mut [Mark],
-) -> Result<usize, FillError>
-    ensures answer { elim result [
-      | Ok total ↦ Filled D.Delay.kind (W.Wiring.net w.now) to.new.table.now from.new.table.now
-          × HoldsBest D.Delay.kind (W.Wiring.net w.now) (take (W.Wiring.net w.now).places loads.new) total
-          × RoomFor (W.Wiring.net w.now) (record { to_table = length to.old.table.now; from_table = length from.old.table.now; load_table = length loads.old; mark_table = length marks.old })
-          × Refilled (W.Wiring.net w.now).nodes to.old to.new
-          × Refilled (W.Wiring.net w.now).nodes from.old from.new
-          × (drop (W.Wiring.net w.now).places loads.new ≡ drop (W.Wiring.net w.now).places loads.old)
-      | Err e ↦ NotLoaded D.Delay.kind (W.Wiring.net w.now) (record { to_table = length to.old.table.now; from_table = length from.old.table.now; load_table = length loads.old; mark_table = length marks.old }) e
-          × Untouched to.old to.new
-          × Untouched from.old from.new
-          × (loads.new ≡ loads.old)
-          × (marks.new ≡ marks.old)
-    ] }
-{
-    check(w)?;
-    let nodes = w.nodes();
-    let places = w.places();
-    if to.len() < nodes || from.len() < nodes {
-        return Err(FillError::Short);
+impl<D: Delay> Tables<'_, D> {
+    ghost use Rattle.std.specs.Prelude.{◌≡◌, take, drop, Ok, Err};
+    ghost use Rattle.lengths.specs.Asked.{Filled};
+    ghost use Rattle.lengths.specs.Tables.{Refilled};
+    ghost use Rattle.drawing.specs.Room.{RoomFor};
+    ghost use Rattle.chooser.specs.Loaded.{HoldsBest, NotLoaded};
+    ghost use Rattle.chooser.specs.Sizes.{sizes, TablesKept};
+
+    /// Checks a wiring, fills both length tables and the load table, and answers the total of the best
+    /// loads. Entries past the nodes and past the places stay; the mark table is scratch. A refusal leaves
+    /// all tables as they were: a fault of the wiring is told before a table that is too short.
+    pub fn best_loads<W: Wiring<D>>(&mut self, w: &W) -> Result<usize, FillError>
+        ensures answer { elim result [
+          | Ok total ↦ Filled D.Delay.kind (W.Wiring.net w.now) self.new.to.table.now self.new.from.table.now
+              × HoldsBest D.Delay.kind (W.Wiring.net w.now) (take (W.Wiring.net w.now).places self.new.loads.now) total
+              × RoomFor (W.Wiring.net w.now) (sizes self.old)
+              × Refilled (W.Wiring.net w.now).nodes self.old.to self.new.to
+              × Refilled (W.Wiring.net w.now).nodes self.old.from self.new.from
+              × (drop (W.Wiring.net w.now).places self.new.loads.now ≡ drop (W.Wiring.net w.now).places self.old.loads.now)
+          | Err e ↦ NotLoaded D.Delay.kind (W.Wiring.net w.now) (sizes self.old) e
+              × TablesKept self.old self.new
+        ] }
+    {
+        check(w)?;
+        let nodes = w.nodes();
+        let places = w.places();
+        if self.to.len() < nodes || self.from.len() < nodes {
+            return Err(FillError::Short);
+        }
+        if self.loads.len() < places || self.marks.len() < nodes + places {
+            return Err(FillError::Short);
+        }
+        let loads = &mut self.loads[..places];
+        Ok(settle_loads(w, &mut self.to, &mut self.from, self.marks, loads))
     }
-    if loads.len() < places || marks.len() < nodes + places {
-        return Err(FillError::Short);
-    }
-    let (node_marks, rest) = marks.split_at_mut(nodes);
-    let place_marks = &mut rest[0..places];
-    let used = &mut loads[0..places];
-    Ok(settle_loads(w, to, from, node_marks, place_marks, used))
 }

@@ -3,3 +3,4 @@
 
 pub mod best;
 pub mod list;
+pub mod tables;

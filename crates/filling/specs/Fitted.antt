@@ -13,9 +13,11 @@ pub record Fits {D : Type 0} (N : Net D) (t : Fitted D) : Type 0 where
   pub nodes : length t.nodes.now ≡ N.nodes
   pub places : length t.places.now ≡ N.places
 
--- from a to b the lengths to and from every node were filled in, and nothing past the nodes
+-- from a to b the lengths to and from every node were filled in, and nothing past the nodes; they are the same lent tables
 pub record Measured {D : Type 0} (K : Kind D) (N : Net D) (a b : Fitted D) : Type 0 where
   pub filled : Filled K N b.to.now.table.now b.from.now.table.now
   pub to_rest : Refilled N.nodes a.to.now b.to.now
   pub from_rest : Refilled N.nodes a.from.now b.from.now
+  pub to_lender : b.to.ghost_name ≡ a.to.ghost_name
+  pub from_lender : b.from.ghost_name ≡ a.from.ghost_name
   pub fits : Fits N b

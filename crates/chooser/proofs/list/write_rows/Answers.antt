@@ -1,45 +1,26 @@
-use Rattle.std.proofs.Common.{◌≡◌, ℕ, ◌-◌, List, length, sym, refl, ap, ◌∙◌, subst, arith}
+use Rattle.std.proofs.Common.{◌≡◌, ℕ, List, length, refl, subst, arith}
 use Rattle.wiring.specs.Lists.{Draws, Witness}
-use Rattle.wiring.specs.Loads.{Loads}
 use Rattle.marks.specs.declared.mark.Mark.{Mark}
 use Rattle.marks.specs.Marks.{classes, load_of}
 use Rattle.marks.specs.Shown.{shown}
 use Rattle.loads.specs.Cut.{entered}
 use Rattle.drawing.proofs.Only.{draws_one}
-use Rattle.chooser.proofs.Shown.{arcs_right, arcs_fit}
-use Rattle.chooser.proofs.Listing.{ready_shows, drawn, is_list, paths_number, words_short, witness_short, shown_witness}
+use Rattle.chooser.proofs.Shown.{ready_sound}
+use Rattle.chooser.proofs.Listing.{drawn, is_list, paths_number, words_short, witness_short, shown_witness}
 use Rattle.chooser.proofs.list.write_rows.Goals as goal
 
-pub arcs_of-arcs-requires : goal.arcs_of-arcs-requires
-arcs_of-arcs-requires g c =
-    let R = c.requires.ready in let ps = c.args.places.now in let n = length c.args.nodes.now in
-    record {
-      sound = arcs_right R.sound R.two (classes ps) ps R.arcs n (n - 1) R.nodes (ap (λ k. k - 1) R.nodes);
-      fits = arcs_fit R.sound R.two (classes ps) ps R.arcs n (n - 1) R.nodes (ap (λ k. k - 1) R.nodes);
-    }
-
-pub count_words-requires : goal.count_words-requires
-count_words-requires g c =
-    let R = c.requires.ready in let A = c.arcs_of-arcs.ensures in
-    record {
-      shows = ready_shows g.met.D.Delay.laws R c.arcs_of-arcs.result A.places A.shown
-          (record { arcs = c.arcs_of-arcs.result; nodes = c.args.nodes }) refl refl A.nodes;
-      places = R.loads ∙ sym R.arcs.places ∙ sym (ap length A.places);
-    }
+pub arcs_of-arcs-requires-clause-sound : goal.arcs_of-arcs-requires-clause-sound
+arcs_of-arcs-requires-clause-sound g c = ready_sound c.requires.ready
 
 pub returns-then-count_words-words : goal.returns-then-count_words-words
 returns-then-count_words-words g c =
     let A = c.arcs_of-arcs.ensures in (
       refl,
-      words_short g.met.D.Delay.laws c.requires.ready c.arcs_of-arcs.result A.places A.shown
-          (record { arcs = c.arcs_of-arcs.result; nodes = c.args.nodes }) refl c.args.words.now c.args.witness.now
+      words_short g.met.D.Delay.laws c.requires.ready c.arcs_of-arcs.result A.places A.shown c.args.words.now c.args.witness.now
           c.count_words.result c.count_words.ensures c.if-count_words-words.true,
       refl,
       refl,
     )
-
-pub count_paths-requires : goal.count_paths-requires
-count_paths-requires g c = let R = c.requires.ready in R.loads ∙ sym R.arcs.places ∙ sym (ap length c.arcs_of-arcs.ensures.places)
 
 pub returns-then-count_paths-witness : goal.returns-then-count_paths-witness
 returns-then-count_paths-witness g c =
@@ -51,25 +32,11 @@ returns-then-count_paths-witness g c =
       refl,
     )
 
-pub write_witness-leads-requires : goal.write_witness-leads-requires
-write_witness-leads-requires g c =
+pub write_witness-leads-requires-clause-room : goal.write_witness-leads-requires-clause-room
+write_witness-leads-requires-clause-room g c =
     let A = c.arcs_of-arcs.ensures in let L = g.met.D.Delay.laws in let R = c.requires.ready in let a = c.arcs_of-arcs.result in
     let W = shown_witness L R a A.places A.shown c.requires.cut in
-    record {
-      nodes = sym A.nodes;
-      room = omega (arith, W.count, paths_number L R a A.places A.shown, c.count_paths.ensures, c.if-count_paths-witness.false);
-    }
-
-pub write_list-requires : goal.write_list-requires
-write_list-requires g c =
-    let A = c.arcs_of-arcs.ensures in let R = c.requires.ready in let N = g.W.Wiring.net c.args.w.now in
-    record {
-      shows = ready_shows g.met.D.Delay.laws R c.arcs_of-arcs.result A.places A.shown
-          (record { arcs = c.arcs_of-arcs.result; nodes = c.args.nodes }) refl refl A.nodes;
-      places = R.loads ∙ sym R.arcs.places ∙ sym (ap length A.places);
-      loads = subst (λ (qs : List Mark). Loads N (classes qs) (load_of c.args.loads.now)) (sym A.places) R.best.loads;
-      room = λ qs d. omega (arith, c.count_words.ensures qs d, c.if-count_words-words.false);
-    }
+    omega (arith, W.count, paths_number L R a A.places A.shown, c.count_paths.ensures, c.if-count_paths-witness.false)
 
 pub returns : goal.returns
 returns g c =
