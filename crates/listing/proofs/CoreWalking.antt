@@ -1,8 +1,10 @@
 -- The walk of a core under way.
-use Rattle.std.proofs.Common.{◌≡◌, ℕ, ◌≤◌, Bool, true, false, List, [], ◌∷◌, ◌++◌, length, Some, None, Option, sym, refl, ap, ◌∙◌, subst, arith}
-use Rattle.std.proofs.lemmas.Bool.{both_ways}
+use Rattle.std.proofs.Common.{◌≡◌, ℕ, ◌≤◌, true, false, eqb, ltb, List, [], ◌∷◌, ◌++◌, length, Some, None, Option, refl, ap, ◌∙◌, subst, arith}
+use Rattle.std.proofs.lemmas.Bool.{and_left, and_parts, eqb-true, false_from_ne_true}
 use Rattle.wiring.specs.Lists.{Walker, Walk}
-use Rattle.flow.specs.Table.{Table, ends}
+use Rattle.flow.specs.Table.{Table, begins, ends}
+use Rattle.marks.specs.declared.arcs.Arcs.{Arcs}
+use Rattle.marks.specs.Shown.{shown}
 use Rattle.marks.specs.Links.{Earliest}
 use Rattle.drawing.specs.Progress.{WalkTo}
 use Rattle.drawing.proofs.Progress.{walk_step, walk_done}
@@ -14,9 +16,12 @@ use Rattle.listing.proofs.Rows.{wrote_more, wrote_room}
 use Rattle.listing.proofs.Looking.{left_arc}
 use Rattle.listing.proofs.Walking.{Meets, meets}
 
-module _ (T : Table) (left : ℕ → ℕ) where
+module _ (a : Arcs) (left : ℕ → ℕ) where
+  abbrev T : Table
+  T = shown a
+
   abbrev X : Walker
-  X = by_arcs T left
+  X = by_arcs (shown a) left
 
   -- the leads met have been written behind start, and there is room for the rest
   pub record CoreWay (start : ℕ) (before r : WordRow) (lead : ℕ) : Type 0 where
@@ -29,49 +34,44 @@ module _ (T : Table) (left : ℕ → ℕ) where
     pub put : Wrote before r (start ∷ met)
     pub room : length rest ≤ length (unwritten r)
 
+  -- no arc begins at the sink
+  none_on : (lead : ℕ) → ends T T.sink lead ≡ true → (k : ℕ) → begins_left T left (T.end lead) k ≡ false
+  none_on lead d k = and_left (begins T (T.end lead) k) (ltb 0 (left k)) (false_from_ne_true (begins T (T.end lead) k) (λ b.
+      let p = and_parts (T.arc k) (eqb (T.begin k) (T.end lead)) b in
+      (a.sound.0 k p.0).3
+      (eqb-true (T.begin k) (T.end lead) p.1 ∙ eqb-true (T.end lead) T.sink (and_parts (T.arc lead) (eqb (T.end lead) T.sink) d).1)))
+
   module _ {start : ℕ} {before r : WordRow} {lead : ℕ} (W : CoreWay start before r lead) where
-    -- before the end, the arc that is found is the lead that comes next
-    core_meets : {b : Bool} → b ≡ ends T T.sink lead → b ≡ false → (o : Option ℕ) → Earliest (begins_left T left (T.end lead)) 0 o → Meets W.rest o
-    core_meets is n o e = meets X lead W.rest W.stop (begins_left T left (T.end lead)) o W.goes e (λ _ k. refl)
-        (λ d. absurd (both_ways (ends T T.sink lead) (sym is ∙ n) d))
+    -- the arc that is found is the lead that comes next
+    core_meets : (o : Option ℕ) → Earliest (begins_left T left (T.end lead)) 0 o → Meets W.rest o
+    core_meets o e = meets X lead W.rest W.stop (begins_left T left (T.end lead)) o W.goes e (λ _ k. refl) (none_on lead)
 
-    -- and one is found
-    pub core_goes : {b : Bool} → b ≡ ends T T.sink lead → b ≡ false → Earliest (begins_left T left (T.end lead)) 0 None → ⊥
-    core_goes is n e = both_ways (ends T T.sink lead) (sym is ∙ n)
-        (subst (λ (xs : List ℕ). Walk X lead xs W.stop) (core_meets is n None e) W.goes).0
-
-    module _ {b : Bool} (is : b ≡ ends T T.sink lead) (n : b ≡ false) {j : ℕ} (e : Earliest (begins_left T left (T.end lead)) 0 (Some j)) where
+    module _ {j : ℕ} (e : Earliest (begins_left T left (T.end lead)) 0 (Some j)) where
       more : Meets W.rest (Some j)
-      more = core_meets is n (Some j) e
+      more = core_meets (Some j) e
 
-      module _ {s : WordRow} (put : Wrote r s (j ∷ [])) where
-        pub core_turn : CoreWay start before s j
-        core_turn =
-            let g : Walk X lead (j ∷ more.0) W.stop = subst (λ (xs : List ℕ). Walk X lead xs W.stop) more.1 W.goes in
-            record {
-              met = W.met ++ (j ∷ []);
-              rest = more.0;
-              stop = W.stop;
-              come = walk_step X start lead W.met j W.come g.0 g.1;
-              goes = g.2;
-              arc = left_arc T left (T.end lead) 0 j e;
-              put = wrote_more W.put put;
-              room = omega (arith, wrote_room put, ap length more.1, W.room);
-            }
-
-    -- at the end nothing more comes
-    finished : (xs : List ℕ) (w : ℕ) → Walk X lead xs w → X.done lead ≡ true → xs ≡ []
-    finished [] w g d = refl
-    finished (j ∷ js) w g d = absurd (both_ways (X.done lead) g.0 d)
-
-    pub core_ends : {b : Bool} → b ≡ ends T T.sink lead → b ≡ true → CorePut T left start before r lead
-    core_ends is d =
-        let none = finished W.rest W.stop W.goes (sym is ∙ d) in (
+      pub core_turn : {s : WordRow} → Wrote r s (j ∷ []) → CoreWay start before s j
+      core_turn put =
+          let g : Walk X lead (j ∷ more.0) W.stop = subst (λ (xs : List ℕ). Walk X lead xs W.stop) more.1 W.goes in
           record {
-            leads = W.met;
-            stop = lead;
-            walk = walk_done X start lead W.met W.come (subst (λ (xs : List ℕ). Walk X lead xs W.stop) none W.goes).0;
-            put = W.put;
-          },
-          refl,
-        )
+            met = W.met ++ (j ∷ []);
+            rest = more.0;
+            stop = W.stop;
+            come = walk_step X start lead W.met j W.come g.0 g.1;
+            goes = g.2;
+            arc = left_arc T left (T.end lead) 0 j e;
+            put = wrote_more W.put put;
+            room = omega (arith, wrote_room put, ap length more.1, W.room);
+          }
+
+    -- and where none is found, nothing more comes
+    pub core_ends : Earliest (begins_left T left (T.end lead)) 0 None → CorePut T left start before r lead
+    core_ends e = (
+      record {
+        leads = W.met;
+        stop = lead;
+        walk = walk_done X start lead W.met W.come (subst (λ (xs : List ℕ). Walk X lead xs W.stop) (core_meets None e) W.goes).0;
+        put = W.put;
+      },
+      refl,
+    )

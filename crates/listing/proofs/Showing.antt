@@ -1,5 +1,5 @@
 -- What the links tell of the leads by which a walk goes on.
-use Rattle.std.proofs.Common.{◌≡◌, ℕ, ◌<◌, Bool, true, false, cond, not, ◌&&◌, eqb, List, length, Some, None, Option, sym, refl, ap, ◌∙◌, subst, ⊎_elim, arith}
+use Rattle.std.proofs.Common.{◌≡◌, ℕ, ◌<◌, ◌≤◌, Bool, true, false, cond, not, ◌&&◌, eqb, List, length, Some, None, Option, sym, refl, ap, ◌∙◌, subst, ⊎_elim, arith}
 use Rattle.std.proofs.lemmas.Bool.{both_ways, false_from_ne_true, and_parts, and_from, and_cases, and_left, and_right, not-false, eqb-true}
 use Rattle.delay.specs.Kind.{Kind, Laws}
 use Rattle.wiring.specs.declared.Lead.{Lead}
@@ -21,7 +21,7 @@ use Rattle.listing.specs.Looks.{outer_arc}
 use Rattle.listing.specs.Walks.{way, Reached, nodes_on, StepTo, WalkLong}
 use Rattle.listing.specs.Costs.{outer, Extends}
 use Rattle.listing.proofs.Walking.{Meets, meets}
-use Rattle.listing.proofs.Ready.{fewer_on, walk_exists}
+use Rattle.listing.proofs.Ready.{fewer_on, few_on, walk_exists}
 
 -- the arc at k begins at v or, the other way, it ends there
 abbrev at_node : Table → Bool → ℕ → ℕ → Bool
@@ -134,3 +134,9 @@ module _ {D : Type 0} {K : Kind D} {N : Net D} (S : Sound K N) (m : Marks) where
 pub outer_told : {D : Type 0} {K : Kind D} {N : Net D} (l : Links) → Shows K N l → (along : Bool) (k : ℕ) {told : Bool} →
     told ≡ outer_arc (shown l.arcs) along k → outer N (types_in l) along k ≡ told
 outer_told l H along k e = sym (e ∙ ap (λ (T : Table). outer_arc T along k) H.arcs ∙ outer_is H.sound (types_in l) along k)
+
+-- beyond it, where it is outer, a walk goes on, with few nodes that way
+pub outer_on : {D : Type 0} {K : Kind D} {N : Net D} (l : Links) → Shows K N l → (along : Bool) (k : ℕ) → true ≡ outer_arc (shown l.arcs) along k →
+    {x : ℕ} → x ≡ cond along (head_node N k) (tail_at N k) → Reached N along x × (nodes_on N along x ≤ 4096)
+outer_on l H along k e {x} i =
+    let r = outer_reached H.sound (types_in l) along k x (outer_told l H along k e) i in (r, few_on H.sound along x r)

@@ -34,8 +34,7 @@ module _ {S C : Type 0} (of : S → C) (along : S → Bool) (node : S → ℕ) (
   same_way : (s : S) (o : Option ℕ) (t : S) → Steps s o t → way_of t ≡ way_of s
   same_way s o t r = λ i. X (r.1 i) (r.2 i)
 
-  -- all that they meet is a walk
-  pub steps_walk : (s : S) (xs : List ℕ) → Drains Steps s xs → (stop : ℕ) × Walk (way_of s) (node s) xs stop
+  steps_walk : (s : S) (xs : List ℕ) → Drains Steps s xs → (stop : ℕ) × Walk (way_of s) (node s) xs stop
   steps_walk s [] d = (node s, (subst (λ (t : S). (way_of t).done (node t) ≡ true) (sym d.1.1) d.1.2.0, refl))
   steps_walk s (x ∷ xs) d =
       let one = d.1.1 in let step = one.1.0 in
@@ -49,8 +48,7 @@ module _ {S C : Type 0} (of : S → C) (along : S → Bool) (node : S → ℕ) (
         ),
       )
 
-  -- and before one more of the leads of a walk is met, fewer have been
-  pub steps_less : (s : S) (xs : List ℕ) (t : S) (x : ℕ) (u : S) → Yields Steps s xs t → Steps t (Some x) u →
+  steps_less : (s : S) (xs : List ℕ) (t : S) (x : ℕ) (u : S) → Yields Steps s xs t → Steps t (Some x) u →
       (leads : List ℕ) (w : ℕ) → Walk (way_of s) (node s) leads w → length xs < length leads
   steps_less s [] t x u y r [] w g = absurd (both_ways ((way_of s).done (node s))
       (subst (λ (q : S). (way_of q).done (node q) ≡ false) (sym y) r.0.0) g.0)
@@ -62,3 +60,13 @@ module _ {S C : Type 0} (of : S → C) (along : S → Bool) (node : S → ℕ) (
       let on : Walk (way_of y.0) (node y.0) is w = subst (λ (Y : Walker). Walk Y (node y.0) is w) (sym (same_way s (Some j) y.0 y.1))
       (subst (λ (v : ℕ). Walk (way_of s) v is w) at g.2) in
       omega (arith, steps_less y.0 js t x u y.2 r is w on)
+
+  module _ (s : S) {begun : S} (same : begun ≡ s) (xs : List ℕ) where
+    -- all that they meet is a walk
+    pub steps_end : Drains Steps begun xs → (stop : ℕ) × Walk (way_of s) (node s) xs stop
+    steps_end d = steps_walk s xs (subst (λ (t : S). Drains Steps t xs) same d)
+
+    -- and before one more of the leads of a walk is met, fewer have been
+    pub steps_fewer : (t : S) {x : ℕ} (u : S) → Yields Steps begun xs t → Steps t (Some x) u →
+        (leads : List ℕ) (w : ℕ) → Walk (way_of s) (node s) leads w → length xs < length leads
+    steps_fewer t {x} u y r = steps_less s xs t x u (subst (λ (q : S). Yields Steps q xs t) same y) r

@@ -7,12 +7,13 @@ ghost use Rattle.marks.specs.Shown.{shown};
 ghost use Rattle.listing.specs.Looks.{begins_left};
 ghost use Rattle.listing.specs.CoreWalks.{CoreFits, CorePut};
 
-use crate::links::{Links, is_outer};
+use crate::links::Links;
 use crate::row::WordRow;
 use marks::link::link_of;
 
 impl Links<'_> {
-    /// The lowest lead with something left that begins, as an arc, where the lead ends.
+    /// The lowest lead with something left that begins, as an arc, where the lead ends. At the sink, where
+    /// a core ends, none begins.
     fn next_lead(self, left: &[u16], lead: u16) -> Option<u16>
         requires { (shown self.arcs).arc lead ≡ true }
         ensures { Earliest (begins_left (shown self.entry.arcs) (load_of left.now) ((shown self.entry.arcs).end lead)) 0 result }
@@ -29,10 +30,7 @@ impl Links<'_> {
     {
         row.push(start);
         let mut lead = start;
-        while !is_outer(self.arcs, lead as usize, true) {
-            let Some(next) = self.next_lead(left, lead) else {
-                unreachable!()
-            };
+        while let Some(next) = self.next_lead(left, lead) {
             row.push(next);
             lead = next;
         }

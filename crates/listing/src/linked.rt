@@ -11,6 +11,7 @@ use wiring::Wiring;
 pub struct LinkedWiring<'a, D: Delay, W: Wiring<D>> {
     pub wiring: &'a W,
     pub links: Links<'a>,
+    /// Which delays its leads have.
     pub delays: PhantomData<D>,
     pub ghost shows: { ∥ Shows D.Delay.kind (W.Wiring.net wiring.now) links ∥₁ },
 }

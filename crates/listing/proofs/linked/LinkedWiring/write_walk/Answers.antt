@@ -1,18 +1,15 @@
-use Rattle.std.proofs.Common.{sym, subst, arith}
-use Rattle.wiring.specs.Lists.{Walk}
+use Rattle.std.proofs.Common.{arith}
 use Rattle.listing.specs.Shows.{types_in}
 use Rattle.listing.specs.Walks.{way}
 use Rattle.listing.proofs.Rows.{wrote_more, wrote_room}
-use Rattle.listing.proofs.Walking.{steps_walk, steps_less}
+use Rattle.listing.proofs.Walking.{steps_end, steps_fewer}
 use Rattle.listing.proofs.linked.LinkedWiring.write_walk.Goals as goal
 
 pub push-requires : goal.push-requires
 push-requires g c =
     let f = c.requires.fits in let y = c.loop-lead in
-    let less = steps_less (λ t. t.linked.now) (λ t. t.along) (λ t. t.node) (λ t b. way (g.W.Wiring.net t.wiring.now) (types_in t.links) b)
-    c.into_iter-lead-iterator.result y.yielded y.lead-iterator c.in-Some.lead c.next.new.self y.yielded_by c.in-Some.ensures.steps f.leads f.stop
-    (subst (λ t. Walk (way (g.W.Wiring.net t.linked.now.wiring.now) (types_in t.linked.now.links) t.along) t.node f.leads f.stop)
-    (sym c.into_iter-lead-iterator.ensures.into_iter_gives) f.walk) in
+    let fewer = steps_fewer (λ t. t.linked.now) (λ t. t.along) (λ t. t.node) (λ t b. way (g.W.Wiring.net t.wiring.now) (types_in t.links) b)
+    _ c.into_iter-lead-iterator.ensures.into_iter_gives y.yielded y.lead-iterator c.next.new.self y.yielded_by c.in-Some.ensures.steps f.leads f.stop f.walk in
     omega (arith, wrote_room y.invariant.2, f.room)
 
 pub loop-lead-preserved : goal.loop-lead-preserved
@@ -20,13 +17,7 @@ loop-lead-preserved g c = (tt, tt, wrote_more c.loop-lead.invariant.2 c.push.ens
 
 pub returns : goal.returns
 returns g c =
-    let y = c.loop-lead in let X = way (g.W.Wiring.net c.args.self.now.wiring.now) (types_in c.args.self.now.links) c.args.along in
-    let w = steps_walk (λ t. t.linked.now) (λ t. t.along) (λ t. t.node) (λ t b. way (g.W.Wiring.net t.wiring.now) (types_in t.links) b)
-    c.into_iter-lead-iterator.result y.yielded (c.next.new.self, (y.lead-iterator, y.yielded_by, c.in-None.ensures.steps)) in
-    record {
-      leads = y.yielded;
-      stop = w.0;
-      walk = subst (λ t. Walk (way (g.W.Wiring.net t.linked.now.wiring.now) (types_in t.linked.now.links) t.along) t.node y.yielded w.0)
-          c.into_iter-lead-iterator.ensures.into_iter_gives w.1;
-      put = y.invariant.2;
-    }
+    let y = c.loop-lead in
+    let w = steps_end (λ t. t.linked.now) (λ t. t.along) (λ t. t.node) (λ t b. way (g.W.Wiring.net t.wiring.now) (types_in t.links) b)
+    _ c.into_iter-lead-iterator.ensures.into_iter_gives y.yielded (c.next.new.self, (y.lead-iterator, y.yielded_by, c.in-None.ensures.steps)) in
+    record { leads = y.yielded; stop = w.0; walk = w.1; put = y.invariant.2 }
