@@ -1,6 +1,5 @@
 //! The parts of a line: numbers, the name of a kind, a place.
 ghost use Rattle.std.specs.Prelude.{◌≡◌, ◌+◌, ◌<◌, decimal, MatchOption};
-ghost use Rattle.std.specs.Int.{IsOutOfRange};
 ghost use Rattle.netlist.specs.Texts.{Reads, Exactly, Lacks, Splits, Below, Any, Timed, InRange, PlaceInRange, kind_text, delay_text, wire_text, place_text};
 
 use crate::{KindName, Wire};
@@ -9,40 +8,23 @@ use crate::{KindName, Wire};
 pub(crate) fn split_once(text: &[u8], mark: u8) -> Option<(&[u8], &[u8])>
     ensures { MatchOption result (Lacks mark text.now) (λ p. Splits mark text.now p.0.now p.1.now) }
 {
-    for (i, byte) in text.iter().enumerate() {
-        if *byte == mark {
-            return Some((&text[0..i], &text[i + 1..]));
-        }
-    }
-    None
-}
-
-// The value of a decimal digit.
-fn read_digit(byte: u8) -> Option<u32>
-    ensures { MatchOption result (IsOutOfRange 48 57 byte) (λ d. (byte ≡ 48 + d) × (d < 10)) }
-{
-    match byte {
-        b'0'..=b'9' => Some(u32::from(byte - b'0')),
-        _ => None,
-    }
+    let i = text.iter().position(|byte| *byte == mark)?;
+    Some((&text[..i], &text[i + 1..]))
 }
 
 /// A number that fits 32 bits, in decimal, with no zero in front of its digits.
 pub fn read_number(text: &[u8]) -> Option<u32>
     ensures { Exactly (Below 32) decimal text.now result }
 {
-    if text.is_empty() {
+    let first = *text.first()?;
+    // `parse` would take a sign, and zeros in front
+    if first == b'+' {
         return None;
     }
-    if text.len() > 1 && text[0] == b'0' {
+    if first == b'0' && text.len() > 1 {
         return None;
     }
-    let mut n: u32 = 0;
-    for byte in text {
-        let digit = read_digit(*byte)?;
-        n = n.checked_mul(10)?.checked_add(digit)?;
-    }
-    Some(n)
+    str::from_utf8(text).ok()?.parse().ok()
 }
 
 // A count of contacts, in decimal.
