@@ -1,5 +1,6 @@
 //! The parts of a line: numbers, the name of a kind, a place.
-ghost use Rattle.std.specs.Prelude.{◌≡◌, ◌+◌, ◌<◌, decimal, MatchOption};
+ghost use Rattle.std.specs.Prelude.{◌≡◌, ◌≢◌, ℕ, List, ◌∷◌, ◌++◌, decimal, MatchOption};
+ghost use Rattle.std.specs.Int.{IsOutOfRange};
 ghost use Rattle.netlist.specs.Texts.{Reads, Exactly, Lacks, Splits, Below, Any, Timed, InRange, PlaceInRange, kind_text, delay_text, wire_text, place_text};
 
 use crate::{KindName, Wire};
@@ -25,6 +26,15 @@ pub fn read_number(text: &[u8]) -> Option<u32>
         return None;
     }
     str::from_utf8(text).ok()?.parse().ok()
+}
+
+// The number in front of the first `mark`, which is no digit, and what stands behind it.
+fn read_before(text: &[u8], mark: u8) -> Option<(u32, &[u8])>
+    requires { IsOutOfRange 48 57 mark }
+    ensures { MatchOption result ((n : ℕ) (back : List ℕ) → Below 32 n → text.now ≢ decimal n ++ (mark ∷ back)) (λ p. Below 32 p.0 × (text.now ≡ decimal p.0 ++ (mark ∷ p.1.now))) }
+{
+    let (number, back) = split_once(text, mark)?;
+    Some((read_number(number)?, back))
 }
 
 // A count of contacts, in decimal.
@@ -54,8 +64,8 @@ fn read_delay(kind: KindName, text: &[u8]) -> Option<(u32, u8)>
 {
     match kind {
         KindName::Contact => {
-            let (delay, contacts) = split_once(text, b'/')?;
-            Some((read_number(delay)?, read_contacts(contacts)?))
+            let (delay, contacts) = read_before(text, b'/')?;
+            Some((delay, read_contacts(contacts)?))
         }
         KindName::Late | KindName::Early => Some((read_number(text)?, 0)),
     }
@@ -65,10 +75,8 @@ fn read_delay(kind: KindName, text: &[u8]) -> Option<(u32, u8)>
 fn read_wire(kind: KindName, line: &[u8]) -> Option<Wire>
     ensures { Reads (InRange kind) (wire_text kind) line.now result }
 {
-    let (tail, rest) = split_once(line, b'-')?;
-    let (head, rest) = split_once(rest, b':')?;
-    let tail = read_number(tail)?;
-    let head = read_number(head)?;
+    let (tail, rest) = read_before(line, b'-')?;
+    let (head, rest) = read_before(rest, b':')?;
     let (picoseconds, contacts) = read_delay(kind, rest)?;
     Some(Wire {
         tail,
@@ -82,8 +90,8 @@ fn read_wire(kind: KindName, line: &[u8]) -> Option<Wire>
 pub fn read_place(kind: KindName, line: &[u8]) -> Option<Option<Wire>>
     ensures { Exactly (PlaceInRange kind) (place_text kind) line.now result }
 {
-    if line == b"-".as_slice() {
-        return Some(None);
+    match line {
+        b"-" => Some(None),
+        _ => Some(Some(read_wire(kind, line)?)),
     }
-    Some(Some(read_wire(kind, line)?))
 }
