@@ -5,7 +5,7 @@ use Rattle.netlist.specs.declared.KindName.{KindName}
 use Rattle.netlist.specs.declared.KindName.TheVariants.{Late, Contact, Early}
 use Rattle.netlist.specs.declared.Wire.{Wire}
 use Rattle.std.specs.List.{AllByRecursion}
-use Rattle.std.proofs.lemmas.List.{append_assoc, length-map, map_push}
+use Rattle.std.proofs.lemmas.List.{length-map}
 use Rattle.netlist.specs.Texts.{Exactly, Below, PlaceInRange, place_text}
 use Rattle.netlist.specs.Forms.{lead_form}
 use Rattle.netlist.specs.declared.Expected.{Expected}
@@ -17,7 +17,7 @@ use Rattle.netlist.specs.Outcomes.{Needed, Meets, Wrong, Fails, head_lines, plac
 pub passed_on : {T U E : Type 0} (P : U → Type 0) (o : Option T) (e x : E) (r : Result U E) (Q : E → Type 0) → ◌≡◌ {A = Result T E} (Err x) (ok_or o e) → IsErrAnd r (λ y. y ≡ x) → Q e → MatchResult r P Q
 passed_on P o e x (Ok u) Q h k q = absurd k
 passed_on P None e x (Err y) Q h k q = let same : e ≡ y = cc in subst Q same q
-passed_on P (Some t) e x (Err y) Q h k q = absurd (let z : ◌≡◌ {A = ℕ} 0 1 = cc in omega arith)
+passed_on P (Some t) e x (Err y) Q h k q = cc
 
 -- the next line is missing, or no fit value's text
 pub unread : {A : Type 0} (Fit : A → Type 0) (text : A → List ℕ) (e : Expected) (o : Option (Bor (List ℕ))) (r : Option A) (rest more : List (List ℕ)) → Needed e → ((line : List ℕ) → ((x : A) → Fit x → line ≢ text x) → Meets e line → ⊥) → MatchOption o ((rest ≡ []) × (more ≡ [])) (λ l. rest ≡ l.now ∷ more) → MatchOption o (r ≡ None) (λ l. Exactly Fit text l.now r) → r ≡ None → Wrong e rest
