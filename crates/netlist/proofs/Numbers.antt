@@ -1,4 +1,4 @@
--- A number's text: digits with no zero in front, which `parse` reads.
+-- A number's text: digits with no zero in front, which `from_str_radix` reads.
 use Rattle.std.proofs.Common.{◌≡◌, ◌≢◌, ℕ, zero, suc, ◌<◌, ◌≤◌, List, length, get_or, Ok, Err, decimal, Result, sym, ap, ◌∙◌, subst, arith}
 use Rattle.std.specs.Int.{IsInRange}
 use Rattle.std.specs.Result.{result_ok}
@@ -33,7 +33,7 @@ text_of bs n l e =
     subst Text (sym e)
     (record { some = some; first = digit_at (decimal n) 0 (digits_decimal own n (omega arith)) some; front = one_long n l; utf8 = IsUtf8-from_ascii (decimal n) (IsAscii-decimal n (omega arith)) })
 
--- what `parse` answers for a text with no sign and no zero in front
+-- what `from_str_radix` answers for a text with no sign and no zero in front
 pub parsed : {E : Type 0} (bs : List ℕ) (r : Result ℕ E) → ParsesUnsigned 32 10 bs r → get_or bs 0 0 ≢ 43 → (get_or bs 0 0 ≡ 48 → length bs ≤ 1) → Reads (Below 32) decimal bs (result_ok r)
 parsed {E} bs (Ok x) h sign front =
     let p = parse_plain own {E = E} 32 bs (Ok x) h sign in

@@ -18,14 +18,15 @@ pub fn read_number(text: &[u8]) -> Option<u32>
     ensures { Exactly (Below 32) decimal text.now result }
 {
     let first = *text.first()?;
-    // `parse` would take a sign, and zeros in front
+    // the library would take a sign, and zeros in front
     if first == b'+' {
         return None;
     }
     if first == b'0' && text.len() > 1 {
         return None;
     }
-    str::from_utf8(text).ok()?.parse().ok()
+    let text = str::from_utf8(text).ok()?;
+    u32::from_str_radix(text, 10).ok()
 }
 
 // The number in front of the first `mark`, which is no digit, and what stands behind it.

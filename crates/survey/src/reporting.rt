@@ -61,8 +61,7 @@ impl fmt::Display for ReportError {
 fn lead_of<D: Delay>(place: Option<Wire>) -> Option<Lead<D>>
     ensures { result ≡ place_of D.Delay.kind place }
 {
-    let wire = place?;
-    Some(Lead {
+    place.map(|wire| Lead {
         tail: wire.tail as usize,
         head: wire.head as usize,
         delay: D::read(wire.picoseconds, wire.contacts),
@@ -76,11 +75,10 @@ pub fn leads_of<D: Delay>(
 ) -> Result<Vec<Option<Lead<D>>>, AllocError>
     ensures { IfOk result (λ v. v.items ≡ map (place_of D.Delay.kind) places.now) }
 {
-    let mut leads = Vec::new(heap);
-    for place in places {
-        leads.push(lead_of::<D>(*place))?;
-    }
-    Ok(leads)
+    places
+        .iter()
+        .map(|place| lead_of::<D>(*place))
+        .collect(heap)
 }
 
 // The report of a netlist under one kind of delay.

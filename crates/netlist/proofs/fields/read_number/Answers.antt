@@ -18,14 +18,14 @@ returns-then-first-eq43 c = no_number c.args.text.now (λ t. omega (arith, c.in_
 pub returns-then-text-gt1 : goal.returns-then-text-gt1
 returns-then-text-gt1 c = no_number c.args.text.now (λ t. omega (arith, c.in_ok-first.ensures.item.3.1 0))
 
-pub returns-in_err-ok : goal.returns-in_err-ok
-returns-in_err-ok c =
-    rw c.from_residual-in_err-ok.ensures
-    (no_number c.args.text.now (λ t. grind (arith, common_steps, c.from_utf8.ensures.cases, c.in_err-ok.ensures.value)))
+pub returns-in_err-text : goal.returns-in_err-text
+returns-in_err-text c =
+    rw c.from_residual-in_err-text.ensures
+    (no_number c.args.text.now (λ t. grind (arith, common_steps, c.from_utf8.ensures.cases, c.in_err-text.ensures.value)))
 
 pub returns : goal.returns
 returns c =
     let first = c.in_ok-first.ensures.item.3.1 0 in
     let zero = c.else-first-eq48.either in
-    let same : c.in_ok-ok.field-0.now ≡ c.args.text.now = grind (arith, common_steps, c.in_ok-ok.ensures.value, c.from_utf8.ensures.cases) in
-    exact_number c.args.text.now _ (rw c.ok-2.ensures.value (parsed c.args.text.now c.parse.result (rw same at c.parse.ensures.value.0) (λ h. omega arith) (λ h. omega arith)))
+    let same : c.in_ok-text.text.now ≡ c.args.text.now = grind (arith, common_steps, c.in_ok-text.ensures.value, c.from_utf8.ensures.cases) in
+    exact_number c.args.text.now _ (rw c.ok-2.ensures.value (parsed c.args.text.now c.from_str_radix.result (rw same at c.from_str_radix.ensures.value) (λ h. omega arith) (λ h. omega arith)))
