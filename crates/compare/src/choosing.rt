@@ -84,6 +84,7 @@ fn choose_as<D: Delay>(heap: Global, list: &Netlist) -> Result<Choice, ReportErr
 /// Best loads and list of the wiring that a text describes.
 pub fn choose(heap: Global, text: &[u8]) -> Result<Choice, ReportError> {
     let list = read_netlist(heap, text)?;
+    // a match, as in a report: a trait with a generic method would be longer
     match list.kind {
         KindName::Late => choose_as::<Picoseconds>(heap, &list),
         KindName::Contact => choose_as::<Contact>(heap, &list),

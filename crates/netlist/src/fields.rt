@@ -1,11 +1,13 @@
-//! The parts of a line: numbers, the name of a kind, a place.
+//! The parts of a line: numbers, the name of a kind, a place. Each reader answers an Option: the number of
+//! the line, which a refusal tells, is its caller's.
 ghost use Rattle.std.specs.Prelude.{◌≡◌, ◌≢◌, ℕ, List, ◌∷◌, ◌++◌, decimal, MatchOption};
 ghost use Rattle.std.specs.Int.{IsOutOfRange};
 ghost use Rattle.netlist.specs.Texts.{Reads, Exactly, Lacks, Splits, Below, Any, Timed, InRange, PlaceInRange, kind_text, delay_text, wire_text, place_text};
 
 use crate::{KindName, Wire};
 
-// The parts of a text before and after the first byte that equals `mark`.
+// The parts of a text before and after the first byte that equals `mark`; the library has this of a `&str`,
+// and a line need not be one.
 pub(crate) fn split_once(text: &[u8], mark: u8) -> Option<(&[u8], &[u8])>
     ensures { MatchOption result (Lacks mark text.now) (λ p. Splits mark text.now p.0.now p.1.now) }
 {

@@ -14,7 +14,8 @@ use marks::mark::Mark;
 use std::alloc::{AllocError, Global};
 use wiring::{Lead, Table, Wiring};
 
-// What stands at a place, as the kind reads it.
+// What stands at a place, as the kind reads it. A survey has its like, of a place with other fields: a trait
+// over both would say no more than the literal does.
 fn lead_of<D: Delay>(place: Place) -> Option<Lead<D>>
     ensures { result ≡ lead_in D.Delay.kind place }
 {
@@ -25,7 +26,7 @@ fn lead_of<D: Delay>(place: Place) -> Option<Lead<D>>
     })
 }
 
-// The leads of all places.
+// The leads of all places: a function of its own, so that what the chain gives is known to its caller.
 fn leads_of<D: Delay>(heap: Global, places: &[Place]) -> Result<Vec<Option<Lead<D>>>, AllocError>
     ensures { IfOk result (λ v. v.items ≡ map (lead_in D.Delay.kind) places.now) }
 {

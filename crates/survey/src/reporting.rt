@@ -57,7 +57,8 @@ impl fmt::Display for ReportError {
     }
 }
 
-// What stands at a place, as the kind reads it.
+// What stands at a place, as the kind reads it. The probe has its like, of a place with other fields: a trait
+// over both would say no more than the literal does.
 fn lead_of<D: Delay>(place: Option<Wire>) -> Option<Lead<D>>
     ensures { result ≡ place_of D.Delay.kind place }
 {
@@ -100,6 +101,7 @@ pub fn report(heap: Global, text: &[u8]) -> Result<String, ReportError>
     ensures { Reported (lines_of text.now) result }
 {
     let list = read_netlist(heap, text)?;
+    // a match, since each kind has a type of its own: a trait with a generic method would be longer
     match list.kind {
         KindName::Late => report_as::<Picoseconds>(heap, &list),
         KindName::Contact => report_as::<Contact>(heap, &list),
