@@ -11,7 +11,7 @@ use Rattle.netlist.specs.declared.Expected.{Expected}
 use Rattle.netlist.specs.declared.Expected.TheVariants.{Kind, Nodes}
 use Rattle.netlist.specs.declared.ReadError.{ReadError}
 use Rattle.netlist.specs.declared.ReadError.TheVariants.{Line, NoMemory}
-use Rattle.netlist.specs.Texts.{Reads, Exactly, Any, Below, InRange, PlaceInRange, Timed, kind_text, delay_text, wire_text, place_text}
+use Rattle.netlist.specs.Texts.{Reads, Exactly, Below, InRange, PlaceInRange, Timed, kind_text, delay_text, wire_text, place_text}
 use Rattle.netlist.specs.Forms.{lead_form}
 use Rattle.netlist.specs.Outcomes.{Written, NotRead, Due, none, kind, places, Wrong, Same, Back, Outcome}
 use Rattle.netlist.proofs.Splitting.{number_tail}
@@ -82,9 +82,6 @@ exactly {A} Fit text one bs r h = record { gives = h; back = back r h }
 
 pub exact_number : (bs : List ℕ) (r : Option ℕ) → Reads (Below 32) decimal bs r → Exactly (Below 32) decimal bs r
 exact_number = exactly (Below 32) decimal one_number
-
-pub exact_kind : (bs : List ℕ) (r : Option KindName) → Reads Any kind_text bs r → Exactly Any kind_text bs r
-exact_kind = exactly Any kind_text (λ k l _ _ e. one_kind k l e)
 
 pub exact_place : (k : KindName) (bs : List ℕ) (r : Option (Option Wire)) → Reads (PlaceInRange k) (place_text k) bs r → Exactly (PlaceInRange k) (place_text k) bs r
 exact_place k = exactly (PlaceInRange k) (place_text k) (one_place k)

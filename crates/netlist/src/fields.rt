@@ -49,7 +49,6 @@ fn read_contacts(text: &[u8]) -> Option<u8>
 }
 
 /// The kind that a line names.
-#[tactic(auto, using(crate::proofs::Unique::exact_kind, std::proofs::lemmas::Slice::Eq::text_from_reads))]
 pub fn read_kind(line: &[u8]) -> Option<KindName>
     ensures { Exactly Any kind_text line.now result }
 {
@@ -62,6 +61,7 @@ pub fn read_kind(line: &[u8]) -> Option<KindName>
 }
 
 // The delay and the contacts that stand after the colon of a lead.
+#[tactic(auto, using(crate::proofs::Splitting::number_tail))]
 fn read_delay(kind: KindName, text: &[u8]) -> Option<(u32, u8)>
     ensures { Reads (Timed kind) (delay_text kind) text.now result }
 {
@@ -75,6 +75,7 @@ fn read_delay(kind: KindName, text: &[u8]) -> Option<(u32, u8)>
 }
 
 // A lead, as `tail-head:delay`.
+#[tactic(auto, using(crate::proofs::Splitting::number_tail))]
 fn read_wire(kind: KindName, line: &[u8]) -> Option<Wire>
     ensures { Reads (InRange kind) (wire_text kind) line.now result }
 {

@@ -1,9 +1,11 @@
-use Rattle.std.proofs.Common.{vec_items, sym, subst, arith, rules}
-use Rattle.std.proofs.lemmas.List.{append-nil}
+use Rattle.std.proofs.Common.{map, vec_items, sym, subst, arith, rules}
+use Rattle.std.proofs.lemmas.List.{append-nil, length-map}
 use Rattle.std.proofs.lemmas.Option.{MatchOption-at_none}
+use Rattle.netlist.specs.Texts.{place_text}
+use Rattle.netlist.specs.Forms.{lead_form}
 use Rattle.netlist.specs.Lines.{lines_of, lines_ahead}
-use Rattle.netlist.specs.Outcomes.{NotRead, Fails}
-use Rattle.netlist.proofs.Refusing.{passed_on, place_fails}
+use Rattle.netlist.specs.Outcomes.{NotRead, Wrong, Fails, head_lines, places}
+use Rattle.netlist.proofs.Refusing.{passed_on, no_place}
 use Rattle.netlist.proofs.Unique.{outcome}
 use Rattle.netlist.proofs.reading.read_netlist.Goals as goal
 
@@ -14,12 +16,21 @@ pub returns-in_err-place : goal.returns-in_err-place
 returns-in_err-place c =
     let out = c.in_err-place.ensures in
     let ls = lines_of c.args.text.now in
+    let kind = c.in_ok-kind.kind in
+    let items = vec_items c.loop-line.places in
     let inv = c.loop-line.invariant in
     let bad = MatchOption-at_none {o = c.read_place.result} _ _ out.ok_part c.read_place.ensures.gives in
     outcome ls _
     (passed_on _ c.read_place.result _ c.in_err-place.field-0.0 c.from_residual-in_err-place.result (NotRead ls) out.value c.from_residual-in_err-place.ensures.1
     (subst (Fails ls _) (sym c.lead.ensures)
-    (place_fails c.in_ok-kind.kind c.in_ok-kind.nodes (vec_items c.loop-line.places) ls (lines_ahead c.loop-line.line-iterator) (lines_ahead c.next.new.self) c.in-Some.line.now _ inv.whole c.in-Some.ensures.steps inv.nodes inv.places (omega (arith, c.len-number.ensures, c.loop-line.places.ok.0)) bad)))
+    (record {
+      before = head_lines kind c.in_ok-kind.nodes (map (place_text kind) items);
+      after = lines_ahead c.loop-line.line-iterator;
+      whole = inv.whole;
+      counted = simp length-map (omega (arith, c.len-number.ensures, c.loop-line.places.ok.0));
+      due = places kind c.in_ok-kind.nodes items inv.nodes inv.places;
+      wrong = subst (Wrong (lead_form kind)) (sym c.in-Some.ensures.steps) (no_place kind c.in-Some.line.now bad);
+    })))
 
 pub returns : goal.returns
 returns c =
