@@ -6,7 +6,7 @@ ghost use Rattle.netlist.specs.Lines.{lines_ahead};
 use crate::fields::split_once;
 
 /// Hands out the lines of `bytes` from the offset `at` on.
-// an offset, and not the rest alone: what is handed out keeps the whole text behind it, as `next_line` promises
+// the whole text and an offset, and not the rest alone, since `next_line` promises that the text stays
 #[derive(Clone, Copy)]
 pub struct LineReader<'a> {
     pub bytes: &'a [u8],
