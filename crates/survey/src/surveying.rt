@@ -12,7 +12,7 @@ use lengths::table::Lengths;
 use std::alloc::{AllocError, Global};
 use wiring::Wiring;
 
-// A row for each node.
+// A row for each node. Both tables are passed apart, here and below, since all that is asked of them takes them so.
 fn node_rows<D: Delay, W: Wiring<D>>(
     heap: Global,
     w: &W,
