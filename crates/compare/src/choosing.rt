@@ -9,7 +9,6 @@ use netlist::{KindName, Netlist, read_netlist};
 use std::alloc::Global;
 use survey::SurveyError;
 use survey::reporting::{ReportError, leads_of};
-use survey::surveying::zero_row;
 use wiring::{Table, Wiring};
 
 /// The best load of each place, their total, the words of the list and the number of its paths.
@@ -35,7 +34,7 @@ fn choose_in<D: Delay, W: Wiring<D>>(
     let loads = scratch.to_vec(heap)?;
     let mut words = vec![in heap; 0u16; total.saturating_mul(w.nodes())]?;
     let mut witness = vec![in heap; 0u16; total]?;
-    let Ok(counts) = draw_list(
+    let counts = draw_list(
         w,
         to,
         from,
@@ -43,9 +42,8 @@ fn choose_in<D: Delay, W: Wiring<D>>(
         marks,
         words.as_mut_slice(),
         witness.as_mut_slice(),
-    ) else {
-        return Err(SurveyError::Refused(FillError::Short));
-    };
+    )
+    .map_err(|_| FillError::Short)?;
     words.truncate(counts.words);
     Ok(Choice {
         loads,
@@ -59,8 +57,8 @@ fn choose_in<D: Delay, W: Wiring<D>>(
 fn choose_for<D: Delay, W: Wiring<D>>(heap: Global, w: &W) -> Result<Choice, SurveyError> {
     // first, since the tables below are as long as the node count says
     check(w)?;
-    let mut to_row = zero_row::<D>(heap, w.nodes())?;
-    let mut from_row = zero_row::<D>(heap, w.nodes())?;
+    let mut to_row = vec![in heap; D::zero(); w.nodes()]?;
+    let mut from_row = vec![in heap; D::zero(); w.nodes()]?;
     let mut loads = vec![in heap; 0u16; w.places()]?;
     let mut marks = vec![in heap; Mark::VACANT; w.nodes() + w.places()]?;
     choose_in(
@@ -86,6 +84,7 @@ fn choose_as<D: Delay>(heap: Global, list: &Netlist) -> Result<Choice, ReportErr
 /// Best loads and list of the wiring that a text describes.
 pub fn choose(heap: Global, text: &[u8]) -> Result<Choice, ReportError> {
     let list = read_netlist(heap, text)?;
+    // a match, as in a report: a trait with a generic method would be longer
     match list.kind {
         KindName::Late => choose_as::<Picoseconds>(heap, &list),
         KindName::Contact => choose_as::<Contact>(heap, &list),

@@ -8,7 +8,7 @@ use std::io::Read;
 mod choosing;
 mod text;
 
-fn run(rt: &HostRuntime) -> anyhow::Result<()> {
+fn main(rt: HostRuntime) -> anyhow::Result<()> {
     let mut series = String::new(rt.alloc());
     let _read = rt.stdin().read_to_string(&mut series)?;
     for part in series.split("\n\n") {
@@ -18,8 +18,4 @@ fn run(rt: &HostRuntime) -> anyhow::Result<()> {
         }
     }
     Ok(())
-}
-
-fn main(rt: HostRuntime) -> anyhow::Result<()> {
-    run(&rt)
 }

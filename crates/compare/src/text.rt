@@ -13,12 +13,10 @@ fn write_numbers<W: fmt::Write>(numbers: &[u16], f: &mut fmt::Formatter<W>) -> f
 // Four lines: the loads, their total, the words of the list and the number of its paths.
 impl fmt::Display for Choice {
     fn fmt<W: fmt::Write>(&self, f: &mut fmt::Formatter<W>) -> fmt::Result {
-        let total = self.total;
-        let paths = self.paths;
         write!(f, "loads")?;
         write_numbers(self.loads.as_slice(), f)?;
-        write!(f, "\ntotal {total}\nwords")?;
+        write!(f, "\ntotal {}\nwords", self.total)?;
         write_numbers(self.words.as_slice(), f)?;
-        writeln!(f, "\ncovers {paths}")
+        writeln!(f, "\ncovers {}", self.paths)
     }
 }

@@ -14,13 +14,9 @@ fn show(rt: &HostRuntime, path: &str) -> anyhow::Result<()> {
     Ok(())
 }
 
-fn run(rt: &HostRuntime) -> anyhow::Result<()> {
-    for path in env::args(rt)?.skip(1) {
-        show(rt, path.as_str())?;
+fn main(rt: HostRuntime) -> anyhow::Result<()> {
+    for path in env::args(&rt)?.skip(1) {
+        show(&rt, path.as_str())?;
     }
     Ok(())
-}
-
-fn main(rt: HostRuntime) -> anyhow::Result<()> {
-    run(&rt)
 }

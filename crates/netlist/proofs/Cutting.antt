@@ -1,6 +1,7 @@
 -- The lines of a text, by its cuts at byte 10.
 use Rattle.std.proofs.Common.{◌≡◌, ℕ, suc, ◌+◌, ◌<◌, cond, List, [], ◌∷◌, ◌++◌, length, drop, sym, refl, ap, ◌∙◌, arith, ne_eqb}
-use Rattle.std.proofs.lemmas.List.{append_assoc, drop_at, drop-drop, length_push}
+use Rattle.std.proofs.lemmas.List.{drop-drop}
+use Rattle.std.proofs.Math.Seq.{drop-append-add}
 use Rattle.netlist.specs.Texts.{Lacks, Splits}
 use Rattle.netlist.specs.Lines.{lines_of, onto}
 
@@ -25,6 +26,4 @@ last_line (a ∷ (b ∷ bs)) h l =
 -- the offset behind a line and its byte 10
 pub past_line : (bs rest f b : List ℕ) (i : ℕ) → rest ≡ drop i bs → Splits 10 rest f b → drop (i + (length f + 1)) bs ≡ b
 past_line bs rest f b i e s =
-    sym (drop-drop (length f + 1) i bs)
-    ∙ ap (drop (length f + 1)) (sym e ∙ s.whole ∙ sym (append_assoc f (10 ∷ []) b))
-    ∙ drop_at (f ++ (10 ∷ [])) b (length f + 1) (length_push f 10)
+    sym (drop-drop (length f + 1) i bs) ∙ ap (drop (length f + 1)) (sym e ∙ s.whole) ∙ drop-append-add f (10 ∷ b) 1

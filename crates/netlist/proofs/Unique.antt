@@ -1,5 +1,5 @@
 -- A text is of one netlist at most, and one that is of a netlist is refused at no line.
-use Rattle.std.proofs.Common.{◌≡◌, ℕ, List, [], ◌∷◌, ◌++◌, map, length, get_or, Some, None, Ok, Err, vec_items, decimal, Option, Result, sym, refl, ap, ◌∙◌, subst, arith, MatchResult}
+use Rattle.std.proofs.Common.{◌≡◌, ℕ, List, [], ◌∷◌, ◌++◌, map, length, Some, None, Ok, Err, vec_items, decimal, Option, Result, sym, refl, ap, ◌∙◌, subst, arith, MatchResult}
 use Rattle.std.specs.List.{AllByRecursion}
 use Rattle.std.proofs.lemmas.Fmt.{decimal_injective, decimal_nonempty}
 use Rattle.std.proofs.lemmas.List.{length-append}
@@ -11,7 +11,7 @@ use Rattle.netlist.specs.declared.Expected.{Expected}
 use Rattle.netlist.specs.declared.Expected.TheVariants.{Kind, Nodes}
 use Rattle.netlist.specs.declared.ReadError.{ReadError}
 use Rattle.netlist.specs.declared.ReadError.TheVariants.{Line, NoMemory}
-use Rattle.netlist.specs.Texts.{Reads, Exactly, Any, Below, InRange, PlaceInRange, Timed, kind_text, delay_text, wire_text, place_text}
+use Rattle.netlist.specs.Texts.{Reads, Exactly, Below, InRange, PlaceInRange, Timed, kind_text, delay_text, wire_text, place_text}
 use Rattle.netlist.specs.Forms.{lead_form}
 use Rattle.netlist.specs.Outcomes.{Written, NotRead, Due, none, kind, places, Wrong, Same, Back, Outcome}
 use Rattle.netlist.proofs.Splitting.{number_tail}
@@ -19,13 +19,13 @@ use Rattle.netlist.proofs.Refusing.{late_place, plain_text}
 
 pub one_kind : (k l : KindName) → kind_text k ≡ kind_text l → k ≡ l
 one_kind Late Late e = refl
-one_kind Late Contact e = absurd (omega (arith, ap (λ xs. get_or xs 0 0) e))
-one_kind Late Early e = absurd (omega (arith, ap (λ xs. get_or xs 0 0) e))
-one_kind Contact Late e = absurd (omega (arith, ap (λ xs. get_or xs 0 0) e))
+one_kind Late Contact e = cc
+one_kind Late Early e = cc
+one_kind Contact Late e = cc
 one_kind Contact Contact e = refl
-one_kind Contact Early e = absurd (omega (arith, ap (λ xs. get_or xs 0 0) e))
-one_kind Early Late e = absurd (omega (arith, ap (λ xs. get_or xs 0 0) e))
-one_kind Early Contact e = absurd (omega (arith, ap (λ xs. get_or xs 0 0) e))
+one_kind Contact Early e = cc
+one_kind Early Late e = cc
+one_kind Early Contact e = cc
 one_kind Early Early e = refl
 
 pub one_number : (m n : ℕ) → Below 32 m → Below 32 n → decimal m ≡ decimal n → m ≡ n
@@ -40,10 +40,8 @@ one_delay Contact c d s t e =
 
 same_wire : (v w : Wire) → v.tail ≡ w.tail → v.head ≡ w.head → v.picoseconds ≡ w.picoseconds → v.contacts ≡ w.contacts → v ≡ w
 same_wire v w t h p c =
-    ap (λ x. record { tail = x; head = v.head; picoseconds = v.picoseconds; contacts = v.contacts }) t
-    ∙ ap (λ x. record { tail = w.tail; head = x; picoseconds = v.picoseconds; contacts = v.contacts }) h
-    ∙ ap (λ x. record { tail = w.tail; head = w.head; picoseconds = x; contacts = v.contacts }) p
-    ∙ ap (λ x. record { tail = w.tail; head = w.head; picoseconds = w.picoseconds; contacts = x }) c
+    let e : ◌≡◌ {A = Wire} (record { tail = v.tail; head = v.head; picoseconds = v.picoseconds; contacts = v.contacts }) (record { tail = w.tail; head = w.head; picoseconds = w.picoseconds; contacts = w.contacts }) = cc in
+    e
 
 one_wire : (k : KindName) (v w : Wire) → InRange k v → InRange k w → wire_text k v ≡ wire_text k w → v ≡ w
 one_wire k v w s t e =
@@ -65,8 +63,8 @@ one_place k (Some v) (Some w) s t e = ap Some (one_wire k v w s t e)
 
 one_list : (k : KindName) (ps qs : List (Option Wire)) → AllByRecursion (PlaceInRange k) ps → AllByRecursion (PlaceInRange k) qs → map (place_text k) ps ≡ map (place_text k) qs → ps ≡ qs
 one_list k [] [] s t e = refl
-one_list k [] (q ∷ qs) s t e = absurd (omega (arith, ap length e))
-one_list k (p ∷ ps) [] s t e = absurd (omega (arith, ap length e))
+one_list k [] (q ∷ qs) s t e = cc
+one_list k (p ∷ ps) [] s t e = cc
 one_list k (p ∷ ps) (q ∷ qs) s t e =
     let front : place_text k p ≡ place_text k q = cc in
     let back : map (place_text k) ps ≡ map (place_text k) qs = cc in
@@ -84,9 +82,6 @@ exactly {A} Fit text one bs r h = record { gives = h; back = back r h }
 
 pub exact_number : (bs : List ℕ) (r : Option ℕ) → Reads (Below 32) decimal bs r → Exactly (Below 32) decimal bs r
 exact_number = exactly (Below 32) decimal one_number
-
-pub exact_kind : (bs : List ℕ) (r : Option KindName) → Reads Any kind_text bs r → Exactly Any kind_text bs r
-exact_kind = exactly Any kind_text (λ k l _ _ e. one_kind k l e)
 
 pub exact_place : (k : KindName) (bs : List ℕ) (r : Option (Option Wire)) → Reads (PlaceInRange k) (place_text k) bs r → Exactly (PlaceInRange k) (place_text k) bs r
 exact_place k = exactly (PlaceInRange k) (place_text k) (one_place k)
@@ -107,7 +102,7 @@ one_netlist ls m n s t =
 -- what stands behind the first of a netlist's places are places too
 further : (k : KindName) (ps qs : List (Option Wire)) (after : List (List ℕ)) → AllByRecursion (PlaceInRange k) qs → map (place_text k) ps ++ after ≡ map (place_text k) qs → (rs : List (Option Wire)) × (after ≡ map (place_text k) rs) × AllByRecursion (PlaceInRange k) rs
 further k [] qs after s e = (qs, e, s)
-further k (p ∷ ps) [] after s e = absurd (omega (arith, ap length e))
+further k (p ∷ ps) [] after s e = cc
 further k (p ∷ ps) (q ∷ qs) after s e =
     let back : map (place_text k) ps ++ after ≡ map (place_text k) qs = cc in
     further k ps qs after s.1 back

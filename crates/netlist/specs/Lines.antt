@@ -15,3 +15,7 @@ lines_of (b ∷ bs) = cond (b == 10) ([] ∷ lines_of bs) (onto b (lines_of bs))
 -- the bytes that a reader has not handed out
 abbrev pub ahead : LineReader → List ℕ
 ahead r = drop r.at r.bytes.now
+
+-- the lines that a reader has not handed out
+abbrev pub lines_ahead : LineReader → List (List ℕ)
+lines_ahead r = lines_of (ahead r)

@@ -11,6 +11,7 @@ ghost use Rattle.netlist.specs.Texts.{kind_text};
 ghost use Rattle.netlist.specs.Forms.{lead_form, expected_text, error_text};
 
 use std::alloc::AllocFailed;
+use std::error::Error;
 use std::fmt;
 
 mod fields;
@@ -74,6 +75,8 @@ pub enum ReadError {
     NoMemory,
 }
 
+impl Error for ReadError {}
+
 impl<T: Drop> From<AllocFailed<T>> for ReadError {
     ghost from_gives = { λ _ r. r ≡ NoMemory };
 
@@ -86,11 +89,11 @@ impl fmt::Display for KindName {
     ghost output = { λ k. Some (kind_text k) };
 
     fn fmt<W: fmt::Write>(&self, f: &mut fmt::Formatter<W>) -> fmt::Result {
-        match self {
-            Self::Late => write!(f, "late"),
-            Self::Contact => write!(f, "contact"),
-            Self::Early => write!(f, "early"),
-        }
+        f.write_str(match self {
+            Self::Late => "late",
+            Self::Contact => "contact",
+            Self::Early => "early",
+        })
     }
 }
 
@@ -98,12 +101,12 @@ impl fmt::Display for Expected {
     ghost output = { λ e. Some (expected_text e) };
 
     fn fmt<W: fmt::Write>(&self, f: &mut fmt::Formatter<W>) -> fmt::Result {
-        match self {
-            Self::Kind => write!(f, "late, contact or early"),
-            Self::Nodes => write!(f, "the number of nodes"),
-            Self::Lead => write!(f, "tail-head:delay or -"),
-            Self::LeadWithContacts => write!(f, "tail-head:delay/contacts or -"),
-        }
+        f.write_str(match self {
+            Self::Kind => "late, contact or early",
+            Self::Nodes => "the number of nodes",
+            Self::Lead => "tail-head:delay or -",
+            Self::LeadWithContacts => "tail-head:delay/contacts or -",
+        })
     }
 }
 
@@ -113,7 +116,7 @@ impl fmt::Display for ReadError {
     fn fmt<W: fmt::Write>(&self, f: &mut fmt::Formatter<W>) -> fmt::Result {
         match self {
             Self::Line { number, expected } => write!(f, "line {number}: expected {expected}"),
-            Self::NoMemory => write!(f, "out of memory"),
+            Self::NoMemory => f.write_str("out of memory"),
         }
     }
 }

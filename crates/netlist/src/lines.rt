@@ -1,10 +1,12 @@
 //! The lines of a text: each byte 10 ends one, and at the end of the text it may be missing.
-ghost use Rattle.std.specs.Prelude.{◌≡◌, [], ◌∷◌, MatchOption};
-ghost use Rattle.netlist.specs.Lines.{lines_of, ahead};
+ghost use Rattle.std.specs.Prelude.{◌≡◌};
+ghost use Rattle.std.specs.Iterator.{YieldsFirstRef, item_count};
+ghost use Rattle.netlist.specs.Lines.{lines_ahead};
 
 use crate::fields::split_once;
 
 /// Hands out the lines of `bytes` from the offset `at` on.
+// the whole text and an offset, and not the rest alone, since `next_line` promises that the text stays
 #[derive(Clone, Copy)]
 pub struct LineReader<'a> {
     pub bytes: &'a [u8],
@@ -22,7 +24,7 @@ impl<'a> LineReader<'a> {
 
     /// The next line, with no byte 10; `None` past the last one.
     pub fn next_line(&mut self) -> Option<&'a [u8]>
-        ensures gives { MatchOption result (lines_of (ahead self.old) ≡ []) (λ line. lines_of (ahead self.old) ≡ line.now ∷ lines_of (ahead self.new)) }
+        ensures gives { YieldsFirstRef lines_ahead self.old result self.new }
         ensures same { self.new.bytes.now ≡ self.old.bytes.now }
     {
         if self.at >= self.bytes.len() {
@@ -39,5 +41,17 @@ impl<'a> LineReader<'a> {
                 Some(rest)
             }
         }
+    }
+}
+
+impl<'a> Iterator for LineReader<'a> {
+    type Item = &'a [u8];
+
+    ghost next_gives = { YieldsFirstRef lines_ahead };
+
+    ghost remaining = { item_count lines_ahead };
+
+    fn next(&mut self) -> Option<&'a [u8]> {
+        self.next_line()
     }
 }

@@ -1,7 +1,7 @@
 //! A whole text, line by line.
 ghost use Rattle.std.specs.Prelude.{◌≡◌, MatchResult};
 ghost use Rattle.netlist.specs.Texts.{Below};
-ghost use Rattle.netlist.specs.Lines.{lines_of, ahead};
+ghost use Rattle.netlist.specs.Lines.{lines_of, lines_ahead};
 ghost use Rattle.netlist.specs.Outcomes.{NotRead, Outcome, head_lines};
 
 use crate::fields::{read_kind, read_number, read_place};
@@ -11,21 +11,18 @@ use std::alloc::Global;
 
 // The first two lines: the kind and the number of nodes.
 fn read_head(lines: &mut LineReader<'_>) -> Result<(KindName, u32), ReadError>
-    ensures gives { MatchResult result (λ h. Below 32 h.1 × (lines_of (ahead lines.old) ≡ head_lines h.0 h.1 (lines_of (ahead lines.new)))) (NotRead (lines_of (ahead lines.old))) }
-    ensures same { lines.new.bytes.now ≡ lines.old.bytes.now }
+    ensures { MatchResult result (λ h. Below 32 h.1 × (lines_ahead lines.old ≡ head_lines h.0 h.1 (lines_ahead lines.new))) (NotRead (lines_ahead lines.old)) }
 {
     let no_kind = ReadError::Line {
         number: 1,
         expected: Expected::Kind,
     };
-    let line = lines.next_line().ok_or(no_kind)?;
-    let kind = read_kind(line).ok_or(no_kind)?;
+    let kind = lines.next().and_then(read_kind).ok_or(no_kind)?;
     let no_nodes = ReadError::Line {
         number: 2,
         expected: Expected::Nodes,
     };
-    let line = lines.next_line().ok_or(no_nodes)?;
-    let nodes = read_number(line).ok_or(no_nodes)?;
+    let nodes = lines.next().and_then(read_number).ok_or(no_nodes)?;
     Ok((kind, nodes))
 }
 
@@ -36,7 +33,7 @@ pub fn read_netlist(heap: Global, text: &[u8]) -> Result<Netlist, ReadError>
     let mut lines = LineReader::new(text);
     let (kind, nodes) = read_head(&mut lines)?;
     let mut places = Vec::new(heap);
-    while let Some(line) = lines.next_line() {
+    for line in lines {
         // the first place stands on line 3
         let number = places.len() + 3;
         let bad = ReadError::Line {

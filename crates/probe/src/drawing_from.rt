@@ -1,5 +1,5 @@
 //! The list and a witness of a wiring that is given as a row of places, with tables made for it.
-ghost use Rattle.std.specs.Prelude.{◌≡◌, map, IfOk, vec_len};
+ghost use Rattle.std.specs.Prelude.{◌≡◌, map, IfOk};
 ghost use Rattle.wiring.specs.Net.{Sound};
 ghost use Rattle.probe.specs.Places.{lead_in, net_of};
 ghost use Rattle.probe.specs.Drawn.{Drawn};
@@ -14,40 +14,26 @@ use marks::mark::Mark;
 use std::alloc::{AllocError, Global};
 use wiring::{Lead, Table, Wiring};
 
-// What stands at a place, as the kind reads it.
+// What stands at a place, as the kind reads it. A survey has its like, of a place with other fields: a trait
+// over both would say no more than the literal does.
 fn lead_of<D: Delay>(place: Place) -> Option<Lead<D>>
     ensures { result ≡ lead_in D.Delay.kind place }
 {
-    if !place.stands {
-        return None;
-    }
-    Some(Lead {
+    place.stands.then(|| Lead {
         tail: place.tail as usize,
         head: place.head as usize,
         delay: D::read(place.picoseconds, place.contacts),
     })
 }
 
-// The leads of all places.
+// The leads of all places: a function of its own, so that what the chain gives is known to its caller.
 fn leads_of<D: Delay>(heap: Global, places: &[Place]) -> Result<Vec<Option<Lead<D>>>, AllocError>
     ensures { IfOk result (λ v. v.items ≡ map (lead_in D.Delay.kind) places.now) }
 {
-    let mut leads = Vec::with_capacity(heap, places.len())?;
-    for place in places {
-        leads.push(lead_of::<D>(*place))?;
-    }
-    Ok(leads)
-}
-
-// A table of so many entries.
-fn zero_row<D: Delay>(heap: Global, entries: usize) -> Result<Vec<D>, AllocError>
-    ensures { IfOk result (λ v. vec_len v ≡ entries) }
-{
-    let mut row = Vec::with_capacity(heap, entries)?;
-    for _entry in 0..entries {
-        row.push(D::zero())?;
-    }
-    Ok(row)
+    places
+        .iter()
+        .map(|place| lead_of::<D>(*place))
+        .collect(heap)
 }
 
 // Makes the four tables for a sound wiring, and writes its list and a witness.
@@ -60,10 +46,10 @@ fn draw_on<D: Delay, W: Wiring<D>>(
     requires { Sound D.Delay.kind (W.Wiring.net w.now) }
     ensures { Drawn D.Delay.kind (W.Wiring.net w.now) words.old witness.old words.new witness.new result }
 {
-    let mut to_row = zero_row::<D>(heap, w.nodes())?;
-    let mut from_row = zero_row::<D>(heap, w.nodes())?;
-    let mut loads = Vec::from_elem(heap, 0u16, w.places())?;
-    let mut marks = Vec::from_elem(heap, Mark::VACANT, w.nodes() + w.places())?;
+    let mut to_row = vec![in heap; D::zero(); w.nodes()]?;
+    let mut from_row = vec![in heap; D::zero(); w.nodes()]?;
+    let mut loads = vec![in heap; 0u16; w.places()]?;
+    let mut marks = vec![in heap; Mark::VACANT; w.nodes() + w.places()]?;
     let mut to = Lengths::new(to_row.as_mut_slice());
     let mut from = Lengths::new(from_row.as_mut_slice());
     Ok(draw_list(

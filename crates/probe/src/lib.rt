@@ -17,6 +17,7 @@ use wiring::refusals::Refusal;
 pub mod drawing_from;
 
 /// What stands at a place of a wiring: a lead with its delay, if one stands there.
+// the C interface has no Option, so `stands` says whether the other fields count
 #[repr(C)]
 #[derive(Clone, Copy)]
 pub struct Place {
@@ -29,6 +30,7 @@ pub struct Place {
 
 /// What a call answers: 0 and the numbers of paths and words, or why nothing was written, which is a
 /// refusal's number, or 255 where memory is wanting.
+// the C interface has no Result, so a number says which of the two this is
 #[repr(C)]
 #[derive(Clone, Copy)]
 pub struct Answer {
@@ -36,6 +38,9 @@ pub struct Answer {
     pub paths: usize,
     pub words: usize,
 }
+
+// what `refusal` is where memory is wanting
+const NO_MEMORY: u8 = 255;
 
 /// Why there is no list.
 #[derive(Clone, Copy)]
@@ -75,27 +80,31 @@ impl<T: Drop> From<AllocFailed<T>> for ProbeError {
     }
 }
 
-/// A result in numbers.
-fn answer_of(res: Result<Counts, ProbeError>) -> Answer
-    ensures { result ≡ answer_in res }
-{
-    let refusal = match res {
-        Ok(counts) => {
-            return Answer {
+impl From<Result<Counts, ProbeError>> for Answer {
+    ghost from_gives = { λ res r. r ≡ answer_in res };
+
+    fn from(res: Result<Counts, ProbeError>) -> Self {
+        match res {
+            Ok(Counts { paths, words }) => Answer {
                 refusal: 0,
-                paths: counts.paths,
-                words: counts.words,
-            };
+                paths,
+                words,
+            },
+            Err(ProbeError::Refused(refusal)) => Answer {
+                refusal: refusal.number(),
+                paths: 0,
+                words: 0,
+            },
+            Err(ProbeError::NoMemory) => Answer {
+                refusal: NO_MEMORY,
+                paths: 0,
+                words: 0,
+            },
         }
-        Err(ProbeError::Refused(refusal)) => refusal.number(),
-        Err(ProbeError::NoMemory) => 255,
-    };
-    Answer {
-        refusal,
-        paths: 0,
-        words: 0,
     }
 }
+
+// The three functions below differ in the kind alone: the C interface has no type parameters.
 
 /// The list and a witness of a wiring under picoseconds alone, written into the rows.
 #[unsafe(no_mangle)]
@@ -108,7 +117,7 @@ pub extern "C" fn probe_late(
 ) -> Answer
     ensures { Probed picosecond_kind nodes places.now words.old witness.old words.new witness.new result }
 {
-    answer_of(draw_from::<Picoseconds>(heap, nodes, places, words, witness))
+    draw_from::<Picoseconds>(heap, nodes, places, words, witness).into()
 }
 
 /// The list and a witness of a wiring under picoseconds and contacts, written into the rows.
@@ -122,7 +131,7 @@ pub extern "C" fn probe_contact(
 ) -> Answer
     ensures { Probed contact_kind nodes places.now words.old witness.old words.new witness.new result }
 {
-    answer_of(draw_from::<Contact>(heap, nodes, places, words, witness))
+    draw_from::<Contact>(heap, nodes, places, words, witness).into()
 }
 
 /// The list and a witness of a wiring under the early kind over picoseconds, written into the rows.
@@ -136,5 +145,5 @@ pub extern "C" fn probe_early(
 ) -> Answer
     ensures { Probed (early_kind picosecond_kind) nodes places.now words.old witness.old words.new witness.new result }
 {
-    answer_of(draw_from::<Early<Picoseconds>>(heap, nodes, places, words, witness))
+    draw_from::<Early<Picoseconds>>(heap, nodes, places, words, witness).into()
 }

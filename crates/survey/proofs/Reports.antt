@@ -1,6 +1,5 @@
 -- A report under the kind that a netlist names is a report on its lines.
-use Rattle.std.proofs.Common.{◌≡◌, ℕ, List, IsErrAnd, Ok, Err, Result, sym, subst}
-use Rattle.delay.specs.Kind.{Kind}
+use Rattle.std.proofs.Common.{◌≡◌, ℕ, List, Ok, Err, Result, sym, subst}
 use Rattle.netlist.specs.declared.Netlist.{Netlist}
 use Rattle.netlist.specs.declared.KindName.{KindName}
 use Rattle.netlist.specs.declared.ReadError.{ReadError}
@@ -8,8 +7,7 @@ use Rattle.netlist.specs.Outcomes.{Written}
 use Rattle.survey.specs.declared.reporting.ReportError.{ReportError}
 use Rattle.survey.specs.declared.reporting.ReportError.TheVariants.{Text, Wiring}
 use Rattle.netlist.specs.declared.KindName.TheVariants.{Late, Contact, Early}
-use Rattle.survey.specs.declared.SurveyError.TheVariants.{NoMemory}
-use Rattle.survey.specs.Reported.{ReportedAs, ReportedOf, Reported}
+use Rattle.survey.specs.Reported.{ReportedOf, Reported}
 
 pub reported : {T : Type 0} (lines : List (List ℕ)) (n : Netlist) (k : KindName) (r : Result T ReportError) → Written lines n → n.kind ≡ k → ReportedOf k n r → Reported lines r
 reported {T} lines n k r w e h = under r (subst (λ k. ReportedOf k n r) (sym e) h)
@@ -23,8 +21,3 @@ reported {T} lines n k r w e h = under r (subst (λ k. ReportedOf k n r) (sym e)
     under (Ok text) h = (n, w, h)
     under (Err (Text e)) h = absurd (no_text n.kind e h)
     under (Err (Wiring e)) h = (n, w, h)
-
--- where memory is wanting, that is all that is told
-pub no_memory : {D T : Type 0} (K : Kind D) (n : Netlist) (r : Result T ReportError) → IsErrAnd r (λ e. e ≡ Wiring NoMemory) → ReportedAs K n r
-no_memory K n (Ok text) h = absurd h
-no_memory {T = T} K n (Err x) h = subst (λ y. ReportedAs {T = T} K n (Err y)) (sym h) tt

@@ -57,12 +57,12 @@ impl fmt::Display for ReportError {
     }
 }
 
-// What stands at a place, as the kind reads it.
+// What stands at a place, as the kind reads it. The probe has its like, of a place with other fields: a trait
+// over both would say no more than the literal does.
 fn lead_of<D: Delay>(place: Option<Wire>) -> Option<Lead<D>>
     ensures { result ≡ place_of D.Delay.kind place }
 {
-    let wire = place?;
-    Some(Lead {
+    place.map(|wire| Lead {
         tail: wire.tail as usize,
         head: wire.head as usize,
         delay: D::read(wire.picoseconds, wire.contacts),
@@ -76,11 +76,10 @@ pub fn leads_of<D: Delay>(
 ) -> Result<Vec<Option<Lead<D>>>, AllocError>
     ensures { IfOk result (λ v. v.items ≡ map (place_of D.Delay.kind) places.now) }
 {
-    let mut leads = Vec::new(heap);
-    for place in places {
-        leads.push(lead_of::<D>(*place))?;
-    }
-    Ok(leads)
+    places
+        .iter()
+        .map(|place| lead_of::<D>(*place))
+        .collect(heap)
 }
 
 // The report of a netlist under one kind of delay.
@@ -102,6 +101,7 @@ pub fn report(heap: Global, text: &[u8]) -> Result<String, ReportError>
     ensures { Reported (lines_of text.now) result }
 {
     let list = read_netlist(heap, text)?;
+    // a match, since each kind has a type of its own: a trait with a generic method would be longer
     match list.kind {
         KindName::Late => report_as::<Picoseconds>(heap, &list),
         KindName::Contact => report_as::<Contact>(heap, &list),

@@ -1,5 +1,5 @@
 //! Makes the survey of a wiring.
-ghost use Rattle.std.specs.Prelude.{◌≡◌, IfOk, Ok, vec_len};
+ghost use Rattle.std.specs.Prelude.{◌≡◌, IfOk};
 ghost use Rattle.lengths.specs.Tables.{entry};
 ghost use Rattle.lengths.specs.Asked.{Filled};
 ghost use Rattle.survey.specs.Surveyed.{NodeTold, PlaceTold, Rows, Surveyed};
@@ -12,18 +12,7 @@ use lengths::table::Lengths;
 use std::alloc::{AllocError, Global};
 use wiring::Wiring;
 
-/// A length table of so many entries.
-pub fn zero_row<D: Delay>(heap: Global, entries: usize) -> Result<Vec<D>, AllocError>
-    ensures { IfOk result (λ v. vec_len v ≡ entries) }
-{
-    let mut row = Vec::new(heap);
-    for _entry in 0..entries {
-        row.push(D::zero())?;
-    }
-    Ok(row)
-}
-
-// A row for each node.
+// A row for each node. Both tables are passed apart, here and below, since all that is asked of them takes them so.
 fn node_rows<D: Delay, W: Wiring<D>>(
     heap: Global,
     w: &W,
@@ -91,8 +80,8 @@ pub fn survey_of<D: Delay, W: Wiring<D>>(heap: Global, w: &W) -> Result<Survey<D
 {
     // first, since the tables below are as long as the node count says
     check(w)?;
-    let mut to_row = zero_row::<D>(heap, w.nodes())?;
-    let mut from_row = zero_row::<D>(heap, w.nodes())?;
+    let mut to_row = vec![in heap; D::zero(); w.nodes()]?;
+    let mut from_row = vec![in heap; D::zero(); w.nodes()]?;
     let mut to = Lengths::new(to_row.as_mut_slice());
     let mut from = Lengths::new(from_row.as_mut_slice());
     let longest = work_out(w, &mut to, &mut from)?;

@@ -5,6 +5,7 @@ ghost use Rattle.survey.specs.Texts.{mark_of, survey_error_text};
 use crate::{LeadRow, Survey, SurveyError};
 use delay::Delay;
 use std::fmt;
+use wiring::Lead;
 
 // y for yes, n for no.
 fn mark(yes: bool) -> char
@@ -16,9 +17,7 @@ fn mark(yes: bool) -> char
 // Ends, delay and type of a lead, and the longest path through it, as `0-2:3 type yy path 3`.
 impl<D: Delay + fmt::Display> fmt::Display for LeadRow<D> {
     fn fmt<W: fmt::Write>(&self, f: &mut fmt::Formatter<W>) -> fmt::Result {
-        let tail = self.lead.tail;
-        let head = self.lead.head;
-        let delay = self.lead.delay;
+        let Lead { tail, head, delay } = self.lead;
         let drains = mark(self.drains);
         let fed = mark(self.fed);
         let path = self.longest;
@@ -29,10 +28,8 @@ impl<D: Delay + fmt::Display> fmt::Display for LeadRow<D> {
 // A line for each count, node and place, and a last one for the longest path.
 impl<D: Delay + fmt::Display> fmt::Display for Survey<D> {
     fn fmt<W: fmt::Write>(&self, f: &mut fmt::Formatter<W>) -> fmt::Result {
-        let nodes = self.nodes.len();
-        let places = self.places.len();
-        writeln!(f, "nodes {nodes}")?;
-        writeln!(f, "places {places}")?;
+        writeln!(f, "nodes {}", self.nodes.len())?;
+        writeln!(f, "places {}", self.places.len())?;
         write_nodes(self, f)?;
         write_places(self, f)?;
         match self.longest {
@@ -47,9 +44,7 @@ fn write_nodes<D: Delay + fmt::Display, W: fmt::Write>(
     f: &mut fmt::Formatter<W>,
 ) -> fmt::Result {
     for (node, row) in survey.nodes.iter().enumerate() {
-        let to = row.to;
-        let from = row.from;
-        writeln!(f, "node {node} to {to} from {from}")?;
+        writeln!(f, "node {node} to {} from {}", row.to, row.from)?;
     }
     Ok(())
 }
@@ -77,7 +72,7 @@ impl fmt::Display for SurveyError {
                 let number = error.refusal().number();
                 write!(f, "refused {number}: {error}")
             }
-            SurveyError::NoMemory => write!(f, "out of memory"),
+            SurveyError::NoMemory => f.write_str("out of memory"),
         }
     }
 }

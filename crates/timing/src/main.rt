@@ -1,23 +1,19 @@
 //! Reads the text of a wiring from standard input and prints its survey.
 #![tactic(auto)]
 
-use anyhow::anyhow;
+use anyhow::bail;
 use std::io::Read;
 use survey::reporting::report;
 
-fn run(rt: &HostRuntime) -> anyhow::Result<()> {
+fn main(rt: HostRuntime) -> anyhow::Result<()> {
     let mut text: Vec<u8> = Vec::new(rt.alloc());
     let _read = rt.stdin().read_to_end(&mut text)?;
     match report(rt.alloc(), text.as_slice()) {
         Ok(survey) => print!(rt; "{survey}")?,
         Err(error) => {
             eprintln!(rt; "{error}")?;
-            return Err(anyhow!("no survey"));
+            bail!("no survey");
         }
     }
     Ok(())
-}
-
-fn main(rt: HostRuntime) -> anyhow::Result<()> {
-    run(&rt)
 }

@@ -1,8 +1,8 @@
-use Rattle.std.proofs.Common.{◌≡◌, ◌<◌, vec_items, sym, ap, ◌∙◌, subst, arith}
+use Rattle.std.proofs.Common.{◌<◌, vec_items, sym, ap, ◌∙◌, subst, arith}
 use Rattle.wiring.specs.Lengths.{To, From}
 use Rattle.lengths.specs.Tables.{entry}
 use Rattle.survey.specs.declared.NodeRow.{NodeRow}
-use Rattle.survey.specs.Surveyed.{NodeTold, Rows}
+use Rattle.survey.specs.Surveyed.{NodeTold}
 use Rattle.survey.proofs.Rowing.{rows_more}
 use Rattle.survey.proofs.surveying.node_rows.Goals as goal
 
@@ -20,10 +20,3 @@ loop-node-preserved g c =
       from_is = subst (From K N v) (sym from_read) (c.requires.from_is.longest v inside);
     } in
     (simp items (rows_more (NodeTold K N) (vec_items c.loop-node.rows) v row inv.0 told), c.at.ensures.kept.0 ∙ inv.1, c.at-in-loop-node.ensures.kept.0 ∙ inv.2)
-
-pub returns : goal.returns
-returns g c =
-    let K = g.D.Delay.kind in let N = g.W.Wiring.net c.args.w.now in
-    let inv = c.loop-node.invariant in
-    let end : c.loop-node.node ≡ N.nodes = omega arith in
-    record { rows = subst (Rows (NodeTold K N) (vec_items c.loop-node.rows)) end inv.0; to_kept = inv.1; from_kept = inv.2 }
