@@ -1,6 +1,5 @@
 //! From the text of a wiring to its best loads and its list.
-use chooser::best::best_loads;
-use chooser::list::draw_list;
+use chooser::tables::Tables;
 use delay::{Contact, Delay, Early, Picoseconds};
 use lengths::check::check;
 use lengths::table::{FillError, Lengths};
@@ -25,25 +24,15 @@ pub struct Choice {
 fn choose_in<D: Delay, W: Wiring<D>>(
     heap: Global,
     w: &W,
-    to: &mut Lengths<D>,
-    from: &mut Lengths<D>,
-    scratch: &mut [u16],
-    marks: &mut [Mark],
+    tables: &mut Tables<D>,
 ) -> Result<Choice, SurveyError> {
-    let total = best_loads(w, to, from, scratch, marks)?;
-    let loads = scratch.to_vec(heap)?;
+    let total = tables.best_loads(w)?;
+    let loads = tables.loads.to_vec(heap)?;
     let mut words = vec![in heap; 0u16; total.saturating_mul(w.nodes())]?;
     let mut witness = vec![in heap; 0u16; total]?;
-    let counts = draw_list(
-        w,
-        to,
-        from,
-        scratch,
-        marks,
-        words.as_mut_slice(),
-        witness.as_mut_slice(),
-    )
-    .map_err(|_| FillError::Short)?;
+    let counts = tables
+        .draw_list(w, words.as_mut_slice(), witness.as_mut_slice())
+        .map_err(|_| FillError::Short)?;
     words.truncate(counts.words);
     Ok(Choice {
         loads,
@@ -61,14 +50,13 @@ fn choose_for<D: Delay, W: Wiring<D>>(heap: Global, w: &W) -> Result<Choice, Sur
     let mut from_row = vec![in heap; D::zero(); w.nodes()]?;
     let mut loads = vec![in heap; 0u16; w.places()]?;
     let mut marks = vec![in heap; Mark::VACANT; w.nodes() + w.places()]?;
-    choose_in(
-        heap,
-        w,
-        &mut Lengths::new(to_row.as_mut_slice()),
-        &mut Lengths::new(from_row.as_mut_slice()),
-        loads.as_mut_slice(),
-        marks.as_mut_slice(),
-    )
+    let mut tables = Tables {
+        to: Lengths::new(to_row.as_mut_slice()),
+        from: Lengths::new(from_row.as_mut_slice()),
+        loads: loads.as_mut_slice(),
+        marks: marks.as_mut_slice(),
+    };
+    choose_in(heap, w, &mut tables)
 }
 
 // Best loads and list of a netlist under one kind of delay.

@@ -1,8 +1,7 @@
 //! Best loads, lists and witnesses of small wirings.
 ghost use Rattle.std.specs.Prelude.{◌≤◌};
 
-use chooser::best::best_loads;
-use chooser::list::draw_list;
+use chooser::tables::Tables;
 use delay::{Contact, Delay, Early, Picoseconds};
 use drawing::Counts;
 use lengths::table::Lengths;
@@ -40,25 +39,22 @@ fn choose<D: Delay>(
     let table = Table { nodes, leads };
     let mut to_row = vec![in heap; D::zero(); 8]?;
     let mut from_row = vec![in heap; D::zero(); 8]?;
-    let mut to = Lengths::new(to_row.as_mut_slice());
-    let mut from = Lengths::new(from_row.as_mut_slice());
     let mut scratch = [PAST; 8];
     let mut marks = [Mark::VACANT; 16];
-    let Ok(total) = best_loads(&table, &mut to, &mut from, &mut scratch, &mut marks) else {
+    let mut tables = Tables {
+        to: Lengths::new(to_row.as_mut_slice()),
+        from: Lengths::new(from_row.as_mut_slice()),
+        loads: &mut scratch,
+        marks: &mut marks,
+    };
+    let Ok(total) = tables.best_loads(&table) else {
         return Err(Fail::new("not filled"));
     };
-    let loads = scratch;
+    let mut loads = [PAST; 8];
+    loads.copy_from_slice(tables.loads);
     let mut words = [PAST; 24];
     let mut witness = [PAST; 8];
-    let answer = draw_list(
-        &table,
-        &mut to,
-        &mut from,
-        &mut scratch,
-        &mut marks,
-        &mut words[0..word_room],
-        &mut witness[0..witness_room],
-    );
+    let answer = tables.draw_list(&table, &mut words[..word_room], &mut witness[..witness_room]);
     Ok(Choice {
         total,
         loads,

@@ -2,7 +2,7 @@
 ghost use Rattle.std.specs.Prelude.{◌≤◌};
 
 use crate::limits::{Place, chain, lead};
-use chooser::best::best_loads;
+use chooser::tables::Tables;
 use delay::{Early, Picoseconds};
 use lengths::asked::longest_path;
 use lengths::check::Fault;
@@ -33,13 +33,13 @@ fn refused(rt: &impl Abort, leads: &[Place], room: Room) -> Result<Option<FillEr
     let mut from_row = [Picoseconds(9); 2];
     let mut loads = [9; 1];
     let mut marks = [Mark::VACANT; 3];
-    let answer = best_loads(
-        &Table { nodes: 2, leads },
-        &mut Lengths::new(&mut to_row[0..room.to]),
-        &mut Lengths::new(&mut from_row[0..room.from]),
-        &mut loads[0..room.loads],
-        &mut marks[0..room.marks],
-    );
+    let mut tables = Tables {
+        to: Lengths::new(&mut to_row[..room.to]),
+        from: Lengths::new(&mut from_row[..room.from]),
+        loads: &mut loads[..room.loads],
+        marks: &mut marks[..room.marks],
+    };
+    let answer = tables.best_loads(&Table { nodes: 2, leads });
     let Err(why) = answer else {
         return Ok(None);
     };
@@ -81,15 +81,19 @@ fn the_longest_chain_has_one_load(rt: HostRuntime) -> Result<(), Fail> {
     };
     let mut to_row = [Picoseconds(0); 4096];
     let mut from_row = [Picoseconds(0); 4096];
-    let mut to = Lengths::new(&mut to_row);
-    let mut from = Lengths::new(&mut from_row);
     let mut loads = [0; 4095];
     let mut marks = vec![in rt.alloc(); Mark::VACANT; 8191]?;
-    let total = best_loads(&table, &mut to, &mut from, &mut loads, marks.as_mut_slice());
+    let mut tables = Tables {
+        to: Lengths::new(&mut to_row),
+        from: Lengths::new(&mut from_row),
+        loads: &mut loads,
+        marks: marks.as_mut_slice(),
+    };
+    let total = tables.best_loads(&table);
     assert_eq!(rt; total, Ok(1));
-    assert_eq!(rt; to.at(4095).0, 4_095_000_000);
-    assert_eq!(rt; from.at(0).0, 4_095_000_000);
-    let longest = longest_path(&table, &mut to, &mut from);
+    assert_eq!(rt; tables.to.at(4095).0, 4_095_000_000);
+    assert_eq!(rt; tables.from.at(0).0, 4_095_000_000);
+    let longest = longest_path(&table, &mut tables.to, &mut tables.from);
     assert_eq!(rt; longest, Some(Picoseconds(4_095_000_000)));
     Ok(())
 }
@@ -103,13 +107,17 @@ fn the_loads_of_a_detour(rt: HostRuntime) {
     };
     let mut to_row = [Picoseconds(9); 4];
     let mut from_row = [Picoseconds(9); 3];
-    let mut to = Lengths::new(&mut to_row);
-    let mut from = Lengths::new(&mut from_row);
     let mut loads = [9; 4];
     let mut marks = [Mark::VACANT; 6];
-    let total = best_loads(&table, &mut to, &mut from, &mut loads, &mut marks);
+    let mut tables = Tables {
+        to: Lengths::new(&mut to_row),
+        from: Lengths::new(&mut from_row),
+        loads: &mut loads,
+        marks: &mut marks,
+    };
+    let total = tables.best_loads(&table);
     assert_eq!(rt; total, Ok(2));
-    assert_eq!(rt; to.at(3).0, 9, "entries past the nodes stay");
+    assert_eq!(rt; tables.to.at(3).0, 9, "entries past the nodes stay");
     assert!(rt; loads == [1, 1, 1, 9], "entries past the places stay");
 }
 
@@ -128,12 +136,16 @@ fn the_loads_of_the_early_kind(rt: HostRuntime) {
     };
     let mut to_row = [Early(Picoseconds(0)); 2];
     let mut from_row = [Early(Picoseconds(0)); 2];
-    let mut to = Lengths::new(&mut to_row);
-    let mut from = Lengths::new(&mut from_row);
     let mut loads = [0; 2];
     let mut marks = [Mark::VACANT; 4];
-    let total = best_loads(&table, &mut to, &mut from, &mut loads, &mut marks);
+    let mut tables = Tables {
+        to: Lengths::new(&mut to_row),
+        from: Lengths::new(&mut from_row),
+        loads: &mut loads,
+        marks: &mut marks,
+    };
+    let total = tables.best_loads(&table);
     assert_eq!(rt; total, Ok(2));
-    let longest = longest_path(&table, &mut to, &mut from);
+    let longest = longest_path(&table, &mut tables.to, &mut tables.from);
     assert_eq!(rt; longest, Some(Early(Picoseconds(3))));
 }

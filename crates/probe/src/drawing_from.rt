@@ -5,7 +5,7 @@ ghost use Rattle.probe.specs.Places.{lead_in, net_of};
 ghost use Rattle.probe.specs.Drawn.{Drawn};
 
 use crate::{Place, ProbeError};
-use chooser::list::draw_list;
+use chooser::tables::Tables;
 use delay::Delay;
 use drawing::Counts;
 use lengths::check::check;
@@ -50,17 +50,13 @@ fn draw_on<D: Delay, W: Wiring<D>>(
     let mut from_row = vec![in heap; D::zero(); w.nodes()]?;
     let mut loads = vec![in heap; 0u16; w.places()]?;
     let mut marks = vec![in heap; Mark::VACANT; w.nodes() + w.places()]?;
-    let mut to = Lengths::new(to_row.as_mut_slice());
-    let mut from = Lengths::new(from_row.as_mut_slice());
-    Ok(draw_list(
-        w,
-        &mut to,
-        &mut from,
-        loads.as_mut_slice(),
-        marks.as_mut_slice(),
-        words,
-        witness,
-    )?)
+    let mut tables = Tables {
+        to: Lengths::new(to_row.as_mut_slice()),
+        from: Lengths::new(from_row.as_mut_slice()),
+        loads: loads.as_mut_slice(),
+        marks: marks.as_mut_slice(),
+    };
+    Ok(tables.draw_list(w, words, witness)?)
 }
 
 /// Writes list and witness of the wiring that the places show, unless it breaks a limit, a row is too

@@ -52,7 +52,7 @@ pub enum ProbeError {
 
 impl From<Fault> for ProbeError {
     fn from(fault: Fault) -> Self {
-        ProbeError::Refused(fault.refusal())
+        ProbeError::Refused(fault.into())
     }
 }
 

@@ -5,6 +5,7 @@ ghost use Rattle.survey.specs.Texts.{mark_of, survey_error_text};
 use crate::{LeadRow, Survey, SurveyError};
 use delay::Delay;
 use std::fmt;
+use wiring::refusals::Refusal;
 use wiring::Lead;
 
 // y for yes, n for no.
@@ -69,7 +70,7 @@ impl fmt::Display for SurveyError {
     fn fmt<W: fmt::Write>(&self, f: &mut fmt::Formatter<W>) -> fmt::Result {
         match self {
             SurveyError::Refused(error) => {
-                let number = error.refusal().number();
+                let number = Refusal::from(*error).number();
                 write!(f, "refused {number}: {error}")
             }
             SurveyError::NoMemory => f.write_str("out of memory"),
