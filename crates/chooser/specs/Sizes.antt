@@ -1,6 +1,5 @@
 -- The tables that a choice works on: how long they are, and that they stayed.
 use Rattle.std.specs.Prelude.{◌≡◌, length}
-use Rattle.lengths.specs.Tables.{Untouched}
 use Rattle.drawing.specs.Room as room
 use Rattle.chooser.specs.declared.tables.Tables.{Tables}
 
@@ -8,9 +7,17 @@ use Rattle.chooser.specs.declared.tables.Tables.{Tables}
 abbrev pub sizes : {D : Type 0} → Tables D → room.Tables
 sizes t = record { to_table = length t.to.table.now; from_table = length t.from.table.now; load_table = length t.loads.now; mark_table = length t.marks.now }
 
--- all entries are as before, and the tables are the same lent ones
+-- the tables are the same lent ones, and as long
+pub record SameLent {D : Type 0} (a b : Tables D) : Type 0 where
+  pub to : b.to.table.ghost_name ≡ a.to.table.ghost_name
+  pub from : b.from.table.ghost_name ≡ a.from.table.ghost_name
+  pub loads : b.loads.ghost_name ≡ a.loads.ghost_name
+  pub marks : b.marks.ghost_name ≡ a.marks.ghost_name
+  pub sizes_kept : sizes b ≡ sizes a
+
+-- all entries are as before
 pub record TablesKept {D : Type 0} (a b : Tables D) : Type 0 where
-  pub to : Untouched a.to b.to
-  pub from : Untouched a.from b.from
+  pub to : b.to.table.now ≡ a.to.table.now
+  pub from : b.from.table.now ≡ a.from.table.now
   pub loads : b.loads.now ≡ a.loads.now
   pub marks : b.marks.now ≡ a.marks.now

@@ -113,7 +113,7 @@ impl<D: Delay> Tables<'_, D> {
     ghost use Rattle.lengths.specs.Tables.{Refilled};
     ghost use Rattle.drawing.specs.Room.{RoomFor};
     ghost use Rattle.chooser.specs.Loaded.{HoldsBest, NotLoaded};
-    ghost use Rattle.chooser.specs.Sizes.{sizes, TablesKept};
+    ghost use Rattle.chooser.specs.Sizes.{sizes, SameLent, TablesKept};
 
     /// Checks a wiring, fills both length tables and the load table, and answers the total of the best
     /// loads. Entries past the nodes and past the places stay; the mark table is scratch. A refusal leaves
@@ -129,6 +129,7 @@ impl<D: Delay> Tables<'_, D> {
           | Err e ↦ NotLoaded D.Delay.kind (W.Wiring.net w.now) (sizes self.old) e
               × TablesKept self.old self.new
         ] }
+        ensures lent { SameLent self.old self.new }
     {
         check(w)?;
         let nodes = w.nodes();

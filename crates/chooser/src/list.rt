@@ -2,8 +2,10 @@
 ghost use Rattle.std.specs.Prelude.{◌≡◌, ◌+◌, ◌≤◌, length};
 ghost use Rattle.wiring.specs.Net.{Sound};
 ghost use Rattle.flow.specs.Loads.{Tight};
+ghost use Rattle.lengths.specs.Tables.{Refilled};
 ghost use Rattle.marks.specs.Marks.{classes, load_of, reached_of};
 ghost use Rattle.cover.specs.Arcs.{arc_table as arcs_in};
+ghost use Rattle.filling.specs.Fitted.{Fits, Measured};
 ghost use Rattle.chooser.specs.Ready.{Ready};
 ghost use Rattle.chooser.specs.Written.{Rows};
 
@@ -57,12 +59,12 @@ fn write_rows<'a, D: Delay, W: Wiring<D>>(
 fn write_found<D: Delay, W: Wiring<D>>(
     w: &W,
     nodes: &mut [Mark],
-    places: &[Mark],
+    places: &mut [Mark],
     loads: &mut [u16],
     words: &mut [u16],
     witness: &mut [u16],
 ) -> Result<Counts, Refusal>
-    requires { Ready D.Delay.kind (W.Wiring.net w.now) nodes.old places.now loads.old }
+    requires { Ready D.Delay.kind (W.Wiring.net w.now) nodes.old places.old loads.old }
     ensures { Rows D.Delay.kind (W.Wiring.net w.now) words.old witness.old words.new witness.new result }
 {
     mark_cut(arcs_of(places, nodes.len()), nodes, loads);
@@ -70,6 +72,25 @@ fn write_found<D: Delay, W: Wiring<D>>(
 }
 
 /// Finds the best loads of a wiring of two nodes or more, and writes its list and a witness.
+fn draw_found<D: Delay, W: Wiring<D>>(
+    w: &W,
+    tables: &mut Fitted<D>,
+    loads: &mut [u16],
+    words: &mut [u16],
+    witness: &mut [u16],
+) -> Result<Counts, Refusal>
+    requires sound { Sound D.Delay.kind (W.Wiring.net w.now) }
+    requires two { 2 ≤ (W.Wiring.net w.now).nodes }
+    requires fits { Fits (W.Wiring.net w.now) tables.old }
+    requires loads { length loads.old ≡ (W.Wiring.net w.now).places }
+    ensures rows { Rows D.Delay.kind (W.Wiring.net w.now) words.old witness.old words.new witness.new result }
+    ensures measured { Measured D.Delay.kind (W.Wiring.net w.now) tables.old tables.new }
+{
+    find_loads(w, tables, loads);
+    write_found(w, tables.nodes, tables.places, loads, words, witness)
+}
+
+/// The same, with the marks cut into those of the nodes and those of the places.
 fn draw_on<'a, D: Delay, W: Wiring<D>>(
     w: &W,
     to: &mut Lengths<'a, D>,
@@ -85,7 +106,9 @@ fn draw_on<'a, D: Delay, W: Wiring<D>>(
     requires from_room { (W.Wiring.net w.now).nodes ≤ length from.old.table.now }
     requires marks { (W.Wiring.net w.now).nodes + (W.Wiring.net w.now).places ≤ length marks.old }
     requires loads { length loads.old ≡ (W.Wiring.net w.now).places }
-    ensures { Rows D.Delay.kind (W.Wiring.net w.now) words.old witness.old words.new witness.new result }
+    ensures rows { Rows D.Delay.kind (W.Wiring.net w.now) words.old witness.old words.new witness.new result }
+    ensures to_rest { Refilled (W.Wiring.net w.now).nodes to.old to.new }
+    ensures from_rest { Refilled (W.Wiring.net w.now).nodes from.old from.new }
 {
     let (nodes, rest) = marks.split_at_mut(w.nodes());
     let places = &mut rest[..w.places()];
@@ -95,15 +118,13 @@ fn draw_on<'a, D: Delay, W: Wiring<D>>(
         nodes,
         places,
     };
-    find_loads(w, &mut tables, loads);
-    let Fitted { nodes, places, .. } = tables;
-    write_found(w, nodes, places, loads, words, witness)
+    draw_found(w, &mut tables, loads, words, witness)
 }
 
 impl<D: Delay> Tables<'_, D> {
     ghost use Rattle.wiring.specs.Net.{Sound};
     ghost use Rattle.drawing.specs.Room.{RoomFor};
-    ghost use Rattle.chooser.specs.Sizes.{sizes};
+    ghost use Rattle.chooser.specs.Sizes.{sizes, SameLent};
     ghost use Rattle.chooser.specs.Written.{Rows};
 
     /// Finds the best loads of a wiring and writes its list and a witness, unless a row is too short for
@@ -116,7 +137,8 @@ impl<D: Delay> Tables<'_, D> {
     ) -> Result<Counts, Refusal>
         requires sound { Sound D.Delay.kind (W.Wiring.net w.now) }
         requires room { RoomFor (W.Wiring.net w.now) (sizes self.old) }
-        ensures { Rows D.Delay.kind (W.Wiring.net w.now) words.old witness.old words.new witness.new result }
+        ensures rows { Rows D.Delay.kind (W.Wiring.net w.now) words.old witness.old words.new witness.new result }
+        ensures lent { SameLent self.old self.new }
     {
         if w.nodes() < FEWEST_NODES {
             return Ok(Counts { paths: 0, words: 0 });
