@@ -5,3 +5,4 @@ mod Walks
 mod Raising
 mod Settles
 mod Witness
+mod Going

@@ -5,3 +5,4 @@ pub mod Raise
 pub mod Settle
 pub mod Cut
 pub mod Way
+pub mod Went
