@@ -6,3 +6,4 @@ mod Raising
 mod Settles
 mod Witness
 mod Going
+mod Staying

@@ -6,3 +6,4 @@ pub mod Settle
 pub mod Cut
 pub mod Way
 pub mod Went
+pub mod Kept
