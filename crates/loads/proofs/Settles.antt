@@ -16,7 +16,7 @@ use Rattle.marks.specs.Marks.{reached_of, depth_of, via_of}
 use Rattle.loads.specs.Search.{Sought}
 use Rattle.loads.specs.Settle.{Reduced, Lowered, SettledTo}
 use Rattle.loads.specs.Walk.{way_to}
-use Rattle.loads.proofs.Raising.{load_le}
+use Rattle.loads.proofs.Raises.{load_le}
 use Rattle.loads.proofs.Walks.{most_le, sought_way}
 
 -- a shift of so much fits, where loads are few

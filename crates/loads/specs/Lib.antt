@@ -7,3 +7,4 @@ pub mod Cut
 pub mod Way
 pub mod Went
 pub mod Kept
+pub mod Stays

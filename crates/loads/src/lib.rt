@@ -1,5 +1,5 @@
 //! The best loads of a table of arcs, settled on lent slices, and the cut that shows their total to be
-//! the least. Once the arcs are linked, `first_loads` fills the load table, `Settling` turns it into the
+//! the least. Once the arcs are linked, `Raising` fills the load table, `Settling` turns it into the
 //! best loads, `mark_cut` marks the cut, and `write_witness` lists the arcs that enter it.
 #![tactic(auto)]
 
@@ -13,4 +13,4 @@ mod way;
 
 pub use best::Settling;
 pub use cut::{mark_cut, write_witness};
-pub use first::{clear, first_loads};
+pub use first::{Raising, clear};

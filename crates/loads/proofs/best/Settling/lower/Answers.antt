@@ -4,7 +4,7 @@ use Rattle.marks.specs.Shown.{shown}
 use Rattle.marks.proofs.Fields.{shown_sound, cell_set}
 use Rattle.loads.specs.Settle.{Lowered}
 use Rattle.loads.specs.Walk.{way_to}
-use Rattle.loads.proofs.Raising.{load_le}
+use Rattle.loads.proofs.Raises.{load_le}
 use Rattle.loads.proofs.Settles.{shift_room, kept_at, lowered}
 use Rattle.loads.proofs.Walks.{most_le}
 use Rattle.loads.proofs.best.Settling.lower.Goals as goal

@@ -1,6 +1,8 @@
 -- Raising loads along chains, and the first loads.
-use Rattle.std.proofs.Common.{◌≡◌, ℕ, ◌+◌, ◌-◌, ◌<◌, ◌≤◌, Bool, true, false, cond, eqb, List, [], ◌∷◌, ◌++◌, sym, refl, ap, ◌∙◌, subst, ⊎_elim, add-one, arith}
+use Rattle.std.proofs.Common.{◌≡◌, ℕ, ◌+◌, ◌-◌, ◌<◌, ◌≤◌, Bool, true, false, cond, eqb, List, [], ◌∷◌, ◌++◌, length, is_some, sym, refl, ap, ◌∙◌, subst, ⊎_elim, add-one, arith}
 use mathlib.Core.Path.{fun_ext}
+use mathlib.Core.Logic.{∥∥₁_elim}
+use Rattle.std.proofs.Props.{props}
 use Rattle.std.proofs.lemmas.Bool.{cases_eq, cases_Bool, eq-eqb, ne_eqb}
 use Rattle.wiring.specs.Lists.{count_on}
 use Rattle.flow.specs.Table.{Table, Sound, Joined, begins}
@@ -13,6 +15,12 @@ use Rattle.flow.proofs.Sums.{where_zero}
 use Rattle.flow.proofs.Cuts.{at_most_total}
 use Rattle.flow.proofs.Chains.{chain_once, raised_balanced}
 use Rattle.flow.proofs.Exist.{Begun, begun_none, begun_raised, begun_kept, begun_all}
+use Rattle.marks.specs.declared.arcs.Arcs.{Arcs}
+use Rattle.marks.specs.declared.mark.Mark.{Mark}
+use Rattle.marks.specs.Follow.{near_at}
+use Rattle.marks.specs.Links.{arc_at, link_at, Linked}
+use Rattle.marks.specs.Shown.{shown}
+use Rattle.marks.proofs.Following.{head_some, linked_first}
 use Rattle.loads.specs.Raise.{Raised, RaisedOn, RaisedThrough, far_end}
 use Rattle.loads.specs.Steps.{over}
 
@@ -69,6 +77,13 @@ pub joined_on : (T : Table) → Joined T → (along : Bool) (i : ℕ) → T.arc 
     (j : ℕ) × (T.arc j ≡ true) × (step_from T (over j along) ≡ step_to T (over i along))
 joined_on T J true i a n = J.ahead i a n
 joined_on T J false i a n = J.behind i a n
+
+-- so by the links the node where it comes to has a first arc
+pub goes_on : (A : Arcs) (ns : List Mark) → Linked A.marks.now ns 0 → ∥ Joined (shown A) ∥₁ → (along : Bool) (i v : ℕ) → v < length ns →
+    (shown A).arc i ≡ true → v ≡ step_to (shown A) (over i along) → (v ≡ far_end (shown A) along → ⊥) → is_some (link_at ns along v) ≡ true
+goes_on A ns L J along i v l a to far = ∥∥₁_elim J (hlevel props)
+    (λ j. let ps = A.marks.now in let next = joined_on (shown A) j along i a (λ e. far (to ∙ e)) in
+    head_some (arc_at ps) (near_at ps along) v (link_at ns along v) (linked_first ps ns L along v l) next.0 next.1 (next.2 ∙ sym to))
 
 -- how far it can still go on: less with each arc
 abbrev pub still : Table → Bool → ℕ → ℕ
