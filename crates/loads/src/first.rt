@@ -107,8 +107,8 @@ impl Raising<'_> {
         ensures few { total (shown self.old.arcs) (load_of self.new.loads.now) ≤ length self.old.arcs.marks.now }
     {
         clear(self.loads);
-        for k in 0..self.arcs.marks.len() {
-            let mark = self.arcs.marks[k];
+        let marks = self.arcs.marks;
+        for (k, mark) in marks.iter().enumerate() {
             if mark.arc.is_some() && self.loads[k] == 0 {
                 self.raise_through(k);
             }

@@ -42,11 +42,10 @@ loop-k-preserved c =
           let more = begun_through T (shown_sound a.arcs) f (load_of d.loads.now) k inv.1 inv.2 through in
           subst On (sym w.self-is) (stays_then a b d inv.0 w.raise_through.ensures.stays, more.0, more.1)
       | else-is_some w ↦
-          let arc = over_start a b inv.0 (λ A. c.is_some.result ≡ (shown A).arc k) c.is_some.ensures in
           let some : T.arc k ≡ true → 1 ≤ f k =
           elim w.else-is_some.branch [
             | else-is_some-via-then-is_some+else-self-k-eq0 x ↦ λ _. omega (arith, x.if-self-k-eq0.false)
-            | else-is_some-via-else-is_some x ↦ λ t. absurd (both_ways (T.arc k) (sym arc ∙ x.if-is_some.false) t)
+            | else-is_some-via-else-is_some x ↦ λ t. absurd (both_ways (T.arc k) (sym c.is_some.ensures ∙ x.if-is_some.false) t)
           ] in
           let on = begun_on T f k inv.1 inv.2 some in
           subst On (sym w.self-is) (inv.0, on.0, on.1)
