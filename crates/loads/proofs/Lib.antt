@@ -2,6 +2,9 @@ mod Cells
 mod Stepping
 mod Searches
 mod Walks
-mod Raising
+mod Raises
 mod Settles
 mod Witness
+mod Going
+mod Staying
+mod Rising

@@ -1,6 +1,8 @@
 -- What a search keeps, step by step.
 use Rattle.std.proofs.Common.{◌≡◌, ℕ, zero, suc, ◌+◌, ◌<◌, ◌≤◌, Bool, true, false, not, eqb, ◌⊎◌, List, length, sym, refl, ap, ◌∙◌, subst, inl, inr, ⊎_elim, arith}
 use mathlib.Core.Path.{fun_ext}
+use mathlib.Core.Logic.{∥∥₁_elim, ∥∥₁_prop}
+use Rattle.std.proofs.Props.{props}
 use Rattle.std.proofs.lemmas.Bool.{cases_eq, eq-eqb, ne_eqb, eqb-true, both_ways}
 use Rattle.std.specs.List.{All}
 use Rattle.std.proofs.lemmas.List.Elements.{All-weaker}
@@ -80,8 +82,8 @@ module _ (T : Table) (S : Sound T) (f : ℕ → ℕ) (low : ℕ) (ns ms : List M
             subst (λ (w : ℕ). reached_of ms w ≡ true) (sym (step_stays i m)) (step_kept (queued_at ns i) (q.each i m)))
             (cases_eq c i);
         all = λ w e. ⊎_elim
-            (λ p. (c, omega arith, step_last ∙ p))
-            (λ p. let at = q.all w p.0 in (at.0, omega (arith, at.1), step_stays at.0 at.1 ∙ at.2))
+            (λ p. ∣ (c, omega arith, step_last ∙ p) ∣₁)
+            (λ p. ∥∥₁_elim (q.all w p.0) ∥∥₁_prop (λ at. ∣ (at.0, omega (arith, at.1), step_stays at.0 at.1 ∙ at.2) ∣₁))
             (step_was w e);
       }
 
@@ -153,6 +155,9 @@ module _ (T : Table) (f : ℕ → ℕ) (low : ℕ) where
       All (Made ns along) ks → All (Made ms along) ks
   made_kept ns ms along kept = All-weaker (Made ns along) (Made ms along) (λ k h l e. kept (step_to T (over k along)) (h l e))
 
+  finished_prop : (ns : List Mark) (v : ℕ) → IsProp (Finished T f low ns v)
+  finished_prop ns v = hlevel props
+
   finished_kept : (ns ms : List Mark) (v : ℕ) → ((w : ℕ) → reached_of ns w ≡ true → reached_of ms w ≡ true) → Finished T f low ns v →
       Finished T f low ms v
   finished_kept ns ms v kept h = record {
@@ -179,7 +184,7 @@ module _ (T : Table) (f : ℕ → ℕ) (low : ℕ) where
   }
     where
       all : (v : ℕ) → reached_of ns v ≡ true → Finished T f low ns v
-      all v e = let at = q.all v e in subst (Finished T f low ns) at.2 (h at.0 at.1)
+      all v e = ∥∥₁_elim (q.all v e) (finished_prop ns v) (λ at. subst (Finished T f low ns) at.2 (h at.0 at.1))
 
 -- a search begins: u is reached, and nothing else
 module _ (T : Table) (u : ℕ) (ns : List Mark) (h : (v : ℕ) → reached_of ns v ≡ eqb v u) where
@@ -216,7 +221,7 @@ module _ (T : Table) (u : ℕ) (ns : List Mark) (h : (v : ℕ) → reached_of ns
     shallow = shallow;
     room = omega (arith, shallow u start);
     each = λ i m. subst (λ (j : ℕ). reached_of ns (queued_at ns j) ≡ true) (omega arith) (subst (λ (w : ℕ). reached_of ns w ≡ true) (sym q) start);
-    all = λ v e. (0, omega arith, q ∙ sym (eqb-true v u (sym (h v) ∙ e)));
+    all = λ v e. ∣ (0, omega arith, q ∙ sym (eqb-true v u (sym (h v) ∙ e))) ∣₁;
   }
     where
       shallow : Shallow T ns

@@ -8,49 +8,53 @@ use Rattle.flow.specs.Ways.{Step, Shifted, shifted, back}
 use Rattle.flow.specs.Trails.{Found, Shut, slack_of, put}
 use Rattle.flow.proofs.Best.{tight_least}
 use Rattle.flow.proofs.Shifts.{loads_down, shift_keeps}
-use Rattle.flow.proofs.Trails.{slack_le, slack_fits, slack_some, trail_found, reduce_total_lem, reduce_load}
+use Rattle.flow.proofs.Trails.{slack_fits, slack_some, trail_found, reduce_total_lem, reduce_load}
 use Rattle.flow.proofs.Cells.{shifted_after, shifted_against}
 use Rattle.flow.proofs.Search.{shut_tight, shut_settled, first_none, first_settled, first_one, first_vacant, first_kept, least_kept, first_all}
 use Rattle.marks.specs.declared.mark.Mark.{Mark}
 use Rattle.marks.specs.Marks.{reached_of, depth_of, via_of}
 use Rattle.loads.specs.Search.{Sought}
 use Rattle.loads.specs.Settle.{Reduced, Lowered, SettledTo}
-use Rattle.loads.proofs.Raising.{load_le}
+use Rattle.loads.specs.Walk.{way_to}
+use Rattle.loads.proofs.Raises.{load_le}
+use Rattle.loads.proofs.Walks.{most_le, sought_way}
 
 -- a shift of so much fits, where loads are few
 pub shift_room : (T : Table) → Sound T → (f : ℕ → ℕ) → Loads T f → total T f ≤ 4096 → (x : ℕ) → x ≤ 4096 → (k : ℕ) → f k + x < 65536
 shift_room T S f L few x l k = omega (arith, load_le T S f L.balanced L.vacant k)
 
 -- shifted from the sink to the source, the total is less
-pub reduced : (T : Table) → Sound T → (f g : ℕ → ℕ) (x : ℕ) → Loads T f → 1 ≤ x → (w : Found T f 0 T.sink T.source) (ss : List Step) → w.steps ≡ ss →
-    (d : ℕ) → d ≡ slack_of f x ss → Shifted d ss f g → Reduced T f g
-reduced T S f g x L l w ss e d is sh =
-    let moved = subst (λ (ts : List Step). Shifted (slack_of f x ts) ts f g) (sym e) (subst (λ (y : ℕ). Shifted y ss f g) is sh) in
+pub reduced : (T : Table) → Sound T → (f g : ℕ → ℕ) (x : ℕ) (ns : List Mark) → Loads T f → 1 ≤ x → Sought T f 0 T.sink T.source ns true →
+    (d : ℕ) → d ≡ slack_of f x (way_to T ns T.source) → Shifted d (way_to T ns T.source) f g → Reduced T f g
+reduced T S f g x ns L l s d is sh =
+    let ss = way_to T ns T.source in
+    let found = sought_way T f 0 T.sink T.source ns s in
+    let w = found.0 in
+    let moved = subst (λ (ts : List Step). Shifted (slack_of f x ts) ts f g) (sym found.1) (subst (λ (y : ℕ). Shifted y ss f g) is sh) in
     let down = loads_down T S (slack_of f x w.steps) w.steps w.way f g moved w.once (slack_fits f x w.steps w.free) L in
     record { loads = down.0; less = omega (arith, down.1, slack_some f x w.steps l w.free) }
 
 -- the arc at k itself is not on a way over the places above k
-pub kept_at : (T : Table) (f h : ℕ → ℕ) (k d : ℕ) (u v : ℕ) (w : Found T f (k + 1) u v) (ss : List Step) → w.steps ≡ ss → Shifted d ss f h → h k ≡ f k
-kept_at T f h k d u v w ss e sh =
-    shift_keeps d w.steps f h (subst (λ (ts : List Step). Shifted d ts f h) (sym e) sh) k
+pub kept_at : (T : Table) (f h : ℕ → ℕ) (k d : ℕ) (u v : ℕ) (ns : List Mark) → Sought T f (k + 1) u v ns true → Shifted d (way_to T ns v) f h → h k ≡ f k
+kept_at T f h k d u v ns s sh =
+    let found = sought_way T f (k + 1) u v ns s in
+    let w = found.0 in
+    shift_keeps d w.steps f h (subst (λ (ts : List Step). Shifted d ts f h) (sym found.1) sh) k
     (All-weaker (λ s. k + 1 ≤ s.place) (λ s. s.place ≡ k → ⊥) (λ s m e. omega arith) w.steps w.above)
 
--- no more is shifted than was asked
-pub most_le : (f : ℕ → ℕ) (x : ℕ) (ss : List Step) (d : ℕ) → d ≡ slack_of f x ss → d ≤ x
-most_le f x ss d e = omega (arith, slack_le f x ss)
-
 -- shifted from the begin of the arc at k to its end, and as much taken from k, the load of k is less
-pub lowered : (T : Table) → Sound T → (f h : ℕ → ℕ) (k u v : ℕ) → Loads T f → T.arc k ≡ true → T.begin k ≡ u → T.end k ≡ v → 2 ≤ f k →
-    (w : Found T f (k + 1) u v) (ss : List Step) → w.steps ≡ ss → (d : ℕ) → d ≡ slack_of f (f k - 1) ss → Shifted d ss f h →
+pub lowered : (T : Table) → Sound T → (f h : ℕ → ℕ) (k u v : ℕ) (ns : List Mark) → Loads T f → T.arc k ≡ true → T.begin k ≡ u → T.end k ≡ v → 2 ≤ f k →
+    Sought T f (k + 1) u v ns true → (d : ℕ) → d ≡ slack_of f (f k - 1) (way_to T ns v) → Shifted d (way_to T ns v) f h →
     Lowered T f (put h k (h k - d)) k
-lowered T S f h k u v L a begin end two w ss e d is sh =
+lowered T S f h k u v ns L a begin end two s d is sh =
+    let ss = way_to T ns v in
     let g = put h k (h k - d) in
-    let at_k = kept_at T f h k d u v w ss e sh in
+    let at_k = kept_at T f h k d u v ns s sh in
     let most = most_le f (f k - 1) ss d is in
     let both : Shifted d (back k ∷ ss) f g = shifted_after d (back k) ss f h g sh (shifted_against d k h (omega arith)) in
     let found = subst (λ (low : ℕ). (x : Found T f low (T.begin k) (T.end k)) × (x.steps ≡ ss)) (add-one k)
     (subst (λ (y : ℕ). (x : Found T f (k + 1) (T.begin k) y) × (x.steps ≡ ss)) (sym end)
-    (subst (λ (y : ℕ). (x : Found T f (k + 1) y v) × (x.steps ≡ ss)) (sym begin) (w, e))) in
+    (subst (λ (y : ℕ). (x : Found T f (k + 1) y v) × (x.steps ≡ ss)) (sym begin) (sought_way T f (k + 1) u v ns s))) in
     let moved = subst (λ (ts : List Step). Shifted (slack_of f (f k - 1) ts) (back k ∷ ts) f g) (sym found.1)
     (subst (λ (y : ℕ). Shifted y (back k ∷ ss) f g) is both) in
     let all = reduce_load T S f L k a two found.0 g moved in

@@ -6,14 +6,14 @@ use Rattle.std.proofs.lemmas.Bool.{cases_eq, eq-eqb, ne_eqb, both_ways}
 use Rattle.flow.specs.Table.{Table}
 use Rattle.flow.specs.Ways.{Step, Way, step_from, Once, Shifted, along_count, against_count}
 use Rattle.flow.specs.Trails.{Came, Found, slack_of}
-use Rattle.flow.proofs.Trails.{Good, good_found}
+use Rattle.flow.proofs.Trails.{Good, good_found, slack_le}
 use Rattle.marks.specs.declared.mark.Mark.{Mark}
 use Rattle.marks.specs.declared.mark.Reached.{Reached}
 use Rattle.marks.specs.declared.mark.Step.{Step as StepMark}
 use Rattle.marks.specs.Marks.{blank, step_in, via_in, reached_of, depth_of, via_of}
 use Rattle.loads.specs.Steps.{over}
-use Rattle.loads.specs.Search.{TrailOf, Stepped, stepped_in, stepped_of}
-use Rattle.loads.specs.Walk.{LeadsBack, steps_back, turned}
+use Rattle.loads.specs.Search.{TrailOf, Sought, Stepped, stepped_in, stepped_of}
+use Rattle.loads.specs.Walk.{LeadsBack, steps_back, turned, way_to}
 
 -- what a search leaves leads back from every node but its start
 pub leads_back : (T : Table) (f : ℕ → ℕ) (low u : ℕ) (ns : List Mark) → TrailOf T f low u ns → Stepped u ns → LeadsBack T ns
@@ -99,8 +99,12 @@ module _ (T : Table) (f : ℕ → ℕ) (low u to : ℕ) (ns : List Mark) (t : Tr
           (c.arc, refl, subst (λ (x : ℕ). Way T x ss to) (sym c.to) W) ((c.above, c.free, omega arith, omega arith), G) in
           (found.0, found.1 ∙ sym (goes e))
 
-  pub way_found : reached_of ns to ≡ true → (w : Found T f low u to) × (w.steps ≡ turned (steps_back T ns (suc (depth_of ns to)) to) [])
+  pub way_found : reached_of ns to ≡ true → (w : Found T f low u to) × (w.steps ≡ way_to T ns to)
   way_found r = walk (suc (depth_of ns to)) to [] r (omega arith) (omega arith) refl tt
+
+-- the same, of all that a search leaves
+pub sought_way : (T : Table) (f : ℕ → ℕ) (low u to : ℕ) (ns : List Mark) → Sought T f low u to ns true → (w : Found T f low u to) × (w.steps ≡ way_to T ns to)
+sought_way T f low u to ns s = way_found T f low u to ns s.trail s.stepped s.target
 
 -- steps turned round
 turned_join : (xs ys ss : List Step) → turned (xs ++ ys) ss ≡ turned ys (turned xs ss)
@@ -181,3 +185,7 @@ slack_along f x s ss e = ap (λ (b : Bool). cond b (slack_of f x ss) (min (f s.p
 pub slack_against : (f : ℕ → ℕ) (x : ℕ) (s : Step) (ss : List Step) → s.along ≡ false →
     slack_of f x (s ∷ ss) ≡ min (f s.place - 1) (slack_of f x ss)
 slack_against f x s ss e = ap (λ (b : Bool). cond b (slack_of f x ss) (min (f s.place - 1) (slack_of f x ss))) e
+
+-- no more is shifted than was asked
+pub most_le : (f : ℕ → ℕ) (x : ℕ) (ss : List Step) (d : ℕ) → d ≡ slack_of f x ss → d ≤ x
+most_le f x ss d e = omega (arith, slack_le f x ss)

@@ -5,3 +5,6 @@ pub mod Raise
 pub mod Settle
 pub mod Cut
 pub mod Way
+pub mod Went
+pub mod Kept
+pub mod Stays

@@ -1,5 +1,6 @@
 -- What a search keeps as it goes on, and what it leaves in the mark table.
 use Rattle.std.specs.Prelude.{◌≡◌, ℕ, ◌+◌, ◌<◌, ◌≤◌, Bool, true, false, not, List, length, Option, Some, None, is_some, ◌==◌, slice_index_or}
+use Rattle.std.proofs.Props.{props}
 use Rattle.flow.specs.Table.{Table}
 use Rattle.flow.specs.Ways.{Step, step_from, step_to}
 use Rattle.flow.specs.Trails.{Trail, Shut, put, unreached}
@@ -48,7 +49,11 @@ pub record Queued (T : Table) (ns : List Mark) (count : ℕ) : Type 0 where
   pub shallow : Shallow T ns
   pub room : count + unreached T (reached_of ns) ≤ T.nodes
   pub each : (i : ℕ) → i < count → reached_of ns (queued_at ns i) ≡ true
-  pub all : (v : ℕ) → reached_of ns v ≡ true → (i : ℕ) × (i < count) × (queued_at ns i ≡ v)
+  pub all : (v : ℕ) → reached_of ns v ≡ true → ∥ ((i : ℕ) × (i < count) × (queued_at ns i ≡ v)) ∥₁
+
+-- it is a fact that a struct can keep
+pub queued_prop : (T : Table) (ns : List Mark) (count : ℕ) → IsProp (Queued T ns count)
+queued_prop T ns count = Prim.hlevel props
 
 -- a search over the places from low on has gone on from ns to ms: what was reached and queued stays, and the links too
 pub record Grown (T : Table) (f : ℕ → ℕ) (low : ℕ) (ns ms : List Mark) (before after : ℕ) : Type 0 where

@@ -1,5 +1,6 @@
 -- What is kept as loads are settled: first the total, then lead after lead.
 use Rattle.std.specs.Prelude.{◌≡◌, ℕ, ◌<◌}
+use Rattle.std.proofs.Props.{props}
 use Rattle.flow.specs.Table.{Table}
 use Rattle.flow.specs.Loads.{Loads, Least, FirstTo, total}
 
@@ -20,3 +21,7 @@ pub record SettledTo (T : Table) (f : ℕ → ℕ) (n : ℕ) : Type 0 where
   pub loads : Loads T f
   pub least : Least T f
   pub first : FirstTo T f n
+
+-- that loads are loads is a fact that a struct can keep
+pub loads_prop : (T : Table) (f : ℕ → ℕ) → IsProp (Loads T f)
+loads_prop T f = Prim.hlevel props

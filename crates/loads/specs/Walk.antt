@@ -20,3 +20,7 @@ steps_back T ns (suc n) v = cond (stepped_of ns v) (via_of ns v ∷ steps_back T
 abbrev pub turned : List Step → List Step → List Step
 turned [] ss = ss
 turned (s ∷ xs) ss = turned xs (s ∷ ss)
+
+-- the way to v: all steps back from it, turned round
+abbrev pub way_to : Table → List Mark → ℕ → List Step
+way_to T ns v = turned (steps_back T ns (suc (depth_of ns v)) v) []

@@ -1,12 +1,12 @@
 -- The way that is read back from a node.
-use Rattle.std.specs.Prelude.{suc, List, []}
+use Rattle.std.specs.Prelude.{suc, List}
 use Rattle.flow.specs.Ways.{Step}
 use Rattle.marks.specs.declared.mark.Step.{Step as StepMark}
 use Rattle.marks.specs.Marks.{depth_of}
 use Rattle.marks.specs.Shown.{shown}
 use Rattle.loads.specs.declared.way.WayBack.{WayBack}
 use Rattle.loads.specs.Steps.{over}
-use Rattle.loads.specs.Walk.{steps_back, turned}
+use Rattle.loads.specs.Walk.{steps_back, way_to}
 
 abbrev pub flow_step : StepMark → Step
 flow_step s = over s.place s.along
@@ -17,4 +17,4 @@ steps_left w = steps_back (shown w.arcs) w.nodes.now (suc (depth_of w.nodes.now 
 
 -- all of them from the start
 abbrev pub way_of : WayBack → List Step
-way_of w = turned (steps_left w) []
+way_of w = way_to (shown w.arcs) w.nodes.now w.at

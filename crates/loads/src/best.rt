@@ -5,109 +5,112 @@ ghost use Rattle.flow.specs.Loads.{Loads, Best, total};
 ghost use Rattle.marks.specs.Links.{Linked};
 ghost use Rattle.marks.specs.Marks.{arc_of, load_of};
 ghost use Rattle.marks.specs.Shown.{shown};
+ghost use Rattle.marks.proofs.Linking.{linked_prop};
 ghost use Rattle.loads.specs.Search.{Sought};
-ghost use Rattle.loads.specs.Settle.{Reduced, Lowered, SettledTo};
+ghost use Rattle.loads.specs.Settle.{loads_prop, Reduced, Lowered, SettledTo};
 
 use super::search::search;
 use super::shift::shift_most;
-use super::way::WayBack;
 use marks::arcs::Arcs;
 use marks::mark::{Arc, Mark};
 
 /// No load is above the total, which is at most this.
 const MOST: u16 = 4096;
 
-/// Takes from the total what the way that a search found from the sink to the source allows.
-fn reduce_total(arcs: Arcs, nodes: &[Mark], loads: &mut [u16])
-    requires nodes { length nodes.now ≡ arcs.nodes }
-    requires places { length loads.old ≡ length arcs.marks.now }
-    requires loads { Loads (shown arcs) (load_of loads.old) }
-    requires few { total (shown arcs) (load_of loads.old) ≤ 4096 }
-    requires sought { Sought (shown arcs) (load_of loads.old) 0 arcs.sink arcs.source nodes.now true }
-    ensures { Reduced (shown arcs.entry) (load_of loads.old) (load_of loads.new) }
-{
-    let at = arcs.source;
-    let _by = shift_most(WayBack { arcs, nodes, at }, loads, MOST);
+/// Loads of a table of arcs, while they are turned into the best loads. What a search leaves is kept at
+/// the nodes.
+#[derive(Drop)]
+pub struct Settling<'a> {
+    pub arcs: Arcs<'a>,
+    pub nodes: &'a mut [Mark],
+    pub loads: &'a mut [u16],
+    pub ghost sized: { length nodes.now ≡ arcs.nodes },
+    pub ghost loaded: { length loads.now ≡ length arcs.marks.now },
+    pub ghost linked: { Linked arcs.marks.now nodes.now 0 } by { linked_prop arcs.marks.now nodes.now 0 },
+    pub ghost balanced: { Loads (shown arcs) (load_of loads.now) } by { loads_prop (shown arcs) (load_of loads.now) },
+    pub ghost few: { total (shown arcs) (load_of loads.now) ≤ 4096 },
 }
 
-/// Takes from the load at the place `k` what the way that a search found from the begin of its arc to
-/// the end allows, and puts it on that way. The arc keeps at least 1.
-fn lower(arcs: Arcs, nodes: &[Mark], loads: &mut [u16], k: usize, arc: Arc)
-    requires nodes { length nodes.now ≡ arcs.nodes }
-    requires places { length loads.old ≡ length arcs.marks.now }
-    requires loads { Loads (shown arcs) (load_of loads.old) }
-    requires few { total (shown arcs) (load_of loads.old) ≤ 4096 }
-    requires place { k < length arcs.marks.now }
-    requires arc { arc_of arcs.marks.now k ≡ Some arc }
-    requires spare { 2 ≤ load_of loads.old k }
-    requires sought { Sought (shown arcs) (load_of loads.old) (k + 1) arc.begin arc.end nodes.now true }
-    ensures { Lowered (shown arcs.entry) (load_of loads.old) (load_of loads.new) k }
-{
-    let at = arc.end as usize;
-    let spare = loads[k] - 1;
-    let by = shift_most(WayBack { arcs, nodes, at }, loads, spare);
-    loads[k] -= by;
-}
+impl Settling<'_> {
+    ghost use Rattle.loads.specs.Kept.{Kept};
 
-/// Brings the total down to the least: it is, once no way leads from the sink to the source.
-fn settle_total(arcs: Arcs, nodes: &mut [Mark], loads: &mut [u16])
-    requires nodes { length nodes.old ≡ arcs.nodes }
-    requires places { length loads.old ≡ length arcs.marks.now }
-    requires linked { Linked arcs.marks.now nodes.old 0 }
-    requires loads { Loads (shown arcs) (load_of loads.old) }
-    requires few { total (shown arcs) (load_of loads.old) ≤ 4096 }
-    ensures settled { SettledTo (shown arcs.entry) (load_of loads.new) 0 }
-    ensures few { total (shown arcs.entry) (load_of loads.new) ≤ 4096 }
-    ensures linked { Linked arcs.entry.marks.now nodes.new 0 }
-{
-    while search(arcs, nodes, loads, 0, arcs.sink, arcs.source) {
-        reduce_total(arcs, nodes, loads);
+    /// Searches for a way of free steps from the node `from` to the node `to`, over the places from
+    /// `low` on.
+    fn search(&mut self, low: usize, from: usize, to: usize) -> bool
+        requires from { from < self.old.arcs.nodes }
+        requires to { to < self.old.arcs.nodes }
+        ensures kept { Kept self.old self.new }
+        ensures loads { self.new.loads.now ≡ self.old.loads.now }
+        ensures sought { Sought (shown self.old.arcs) (load_of self.old.loads.now) low from to self.new.nodes.now result }
+    {
+        let loads = &mut *self.loads;
+        search(self.arcs, self.nodes, loads, low, from, to)
     }
-}
 
-/// Brings the load at the place `k` down to the least, with the total and the loads below `k` kept: so
-/// only ways over the places above `k` are searched.
-fn settle_lead(arcs: Arcs, nodes: &mut [Mark], loads: &mut [u16], k: usize)
-    requires nodes { length nodes.old ≡ arcs.nodes }
-    requires places { length loads.old ≡ length arcs.marks.now }
-    requires linked { Linked arcs.marks.now nodes.old 0 }
-    requires place { k < length arcs.marks.now }
-    requires settled { SettledTo (shown arcs) (load_of loads.old) k }
-    requires few { total (shown arcs) (load_of loads.old) ≤ 4096 }
-    ensures settled { SettledTo (shown arcs.entry) (load_of loads.new) (k + 1) }
-    ensures few { total (shown arcs.entry) (load_of loads.new) ≤ 4096 }
-    ensures linked { Linked arcs.entry.marks.now nodes.new 0 }
-{
-    let Some(arc) = arcs.marks[k].arc else {
-        return;
-    };
-    while loads[k] > 1 {
-        if !search(
-            arcs,
-            nodes,
-            loads,
-            k + 1,
-            arc.begin as usize,
-            arc.end as usize,
-        ) {
-            return;
+    /// Takes from the total what the way that a search found from the sink to the source allows.
+    fn reduce_total(&mut self)
+        requires { Sought (shown self.old.arcs) (load_of self.old.loads.now) 0 self.old.arcs.sink self.old.arcs.source self.old.nodes.now true }
+        ensures kept { Kept self.old self.new }
+        ensures reduced { Reduced (shown self.old.arcs) (load_of self.old.loads.now) (load_of self.new.loads.now) }
+    {
+        let nodes = &mut *self.nodes;
+        let _by = shift_most(self.arcs, nodes, self.arcs.source, self.loads, MOST);
+    }
+
+    /// Takes from the load at the place `k` what the way that a search found from the begin of its arc
+    /// to the end allows, and puts it on that way. The arc keeps at least 1.
+    fn lower(&mut self, k: usize, arc: Arc)
+        requires place { k < length self.old.arcs.marks.now }
+        requires arc { arc_of self.old.arcs.marks.now k ≡ Some arc }
+        requires spare { 2 ≤ load_of self.old.loads.now k }
+        requires sought { Sought (shown self.old.arcs) (load_of self.old.loads.now) (k + 1) arc.begin arc.end self.old.nodes.now true }
+        ensures kept { Kept self.old self.new }
+        ensures lowered { Lowered (shown self.old.arcs) (load_of self.old.loads.now) (load_of self.new.loads.now) k }
+    {
+        let nodes = &mut *self.nodes;
+        let loads = &mut *self.loads;
+        let spare = loads[k] - 1;
+        let by = shift_most(self.arcs, nodes, arc.end as usize, loads, spare);
+        loads[k] -= by;
+    }
+
+    /// Brings the total down to the least: it is, once no way leads from the sink to the source.
+    fn settle_total(&mut self)
+        ensures kept { Kept self.old self.new }
+        ensures settled { SettledTo (shown self.old.arcs) (load_of self.new.loads.now) 0 }
+    {
+        while self.search(0, self.arcs.sink, self.arcs.source) {
+            self.reduce_total();
         }
-        lower(arcs, nodes, loads, k, arc);
     }
-}
 
-/// Turns loads into the best loads.
-pub fn settle(arcs: Arcs, nodes: &mut [Mark], loads: &mut [u16])
-    requires nodes { length nodes.old ≡ arcs.nodes }
-    requires places { length loads.old ≡ length arcs.marks.now }
-    requires linked { Linked arcs.marks.now nodes.old 0 }
-    requires loads { Loads (shown arcs) (load_of loads.old) }
-    requires few { total (shown arcs) (load_of loads.old) ≤ 4096 }
-    ensures best { Best (shown arcs.entry) (load_of loads.new) }
-    ensures linked { Linked arcs.entry.marks.now nodes.new 0 }
-{
-    settle_total(arcs, nodes, loads);
-    for k in 0..arcs.marks.len() {
-        settle_lead(arcs, nodes, loads, k);
+    /// Brings the load at the place `k` down to the least, with the total and the loads below `k` kept:
+    /// so only ways over the places above `k` are searched.
+    fn settle_lead(&mut self, k: usize)
+        requires place { k < length self.old.arcs.marks.now }
+        requires settled { SettledTo (shown self.old.arcs) (load_of self.old.loads.now) k }
+        ensures kept { Kept self.old self.new }
+        ensures settled { SettledTo (shown self.old.arcs) (load_of self.new.loads.now) (k + 1) }
+    {
+        let Some(arc) = self.arcs.marks[k].arc else {
+            return;
+        };
+        while self.loads[k] > 1 {
+            if !self.search(k + 1, arc.begin as usize, arc.end as usize) {
+                return;
+            }
+            self.lower(k, arc);
+        }
+    }
+
+    /// Turns the loads into the best loads.
+    pub fn settle(&mut self)
+        ensures kept { Kept self.old self.new }
+        ensures best { Best (shown self.old.arcs) (load_of self.new.loads.now) }
+    {
+        self.settle_total();
+        for k in 0..self.arcs.marks.len() {
+            self.settle_lead(k);
+        }
     }
 }

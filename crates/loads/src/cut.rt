@@ -24,32 +24,43 @@ pub fn mark_cut(arcs: Arcs, nodes: &mut [Mark], loads: &[u16])
     let _found = search(arcs, nodes, loads, 0, arcs.sink, arcs.source);
 }
 
-/// Whether the place `k` has an arc that enters the cut.
-fn enters_cut(arcs: Arcs, nodes: &[Mark], k: usize) -> bool
-    requires nodes { length nodes.now ≡ arcs.nodes }
-    requires place { k < length arcs.marks.now }
-    ensures { result ≡ entering (shown arcs.entry) (reached_of nodes.now) k }
-{
-    let Some(arc) = arcs.marks[k].arc else {
-        return false;
-    };
-    nodes[arc.begin as usize].reached.is_none() && nodes[arc.end as usize].reached.is_some()
+/// The arcs of a wiring, and at its nodes the cut that a search marked.
+#[derive(Clone, Copy)]
+pub struct Cut<'a> {
+    pub arcs: Arcs<'a>,
+    pub nodes: &'a [Mark],
+    pub ghost sized: { length nodes.now ≡ arcs.nodes },
 }
 
-/// Writes the places whose arcs enter the cut to the front of a row, ascending, and answers how many
-/// they are.
-pub fn write_witness(arcs: Arcs, nodes: &[Mark], row: &mut [u16]) -> usize
-    requires nodes { length nodes.now ≡ arcs.nodes }
-    requires room { length (entered (shown arcs) nodes.now) ≤ length row.old }
-    ensures row { row.new ≡ entered (shown arcs.entry) nodes.now ++ drop (length (entered (shown arcs.entry) nodes.now)) row.old }
-    ensures count { result ≡ length (entered (shown arcs.entry) nodes.now) }
-{
-    let mut count = 0;
-    for k in 0..arcs.marks.len() {
-        if enters_cut(arcs, nodes, k) {
-            row[count] = k as u16;
-            count += 1;
-        }
+impl Cut<'_> {
+    /// Whether the place `k` has an arc that enters the cut.
+    fn is_entered_at(&self, k: usize) -> bool
+        requires { k < length self.now.arcs.marks.now }
+        ensures { result ≡ entering (shown self.now.arcs) (reached_of self.now.nodes.now) k }
+    {
+        let nodes = self.nodes;
+        let mark = self.arcs.marks[k];
+        let Some(arc) = mark.arc else {
+            return false;
+        };
+        nodes[arc.begin as usize].reached.is_none() && nodes[arc.end as usize].reached.is_some()
     }
-    count
+
+    /// Writes the places whose arcs enter the cut to the front of a row, ascending, and answers how
+    /// many they are.
+    pub fn write_witness(&self, row: &mut [u16]) -> usize
+        requires { length (entered (shown self.now.arcs) self.now.nodes.now) ≤ length row.old }
+        ensures row { row.new ≡ entered (shown self.now.arcs) self.now.nodes.now ++ drop (length (entered (shown self.now.arcs) self.now.nodes.now)) row.old }
+        ensures count { result ≡ length (entered (shown self.now.arcs) self.now.nodes.now) }
+    {
+        // counted by hand: of entries written through `iter_mut` and `zip` nothing is known afterwards
+        let mut count = 0;
+        for k in 0..self.arcs.marks.len() {
+            if self.is_entered_at(k) {
+                row[count] = k as u16;
+                count += 1;
+            }
+        }
+        count
+    }
 }

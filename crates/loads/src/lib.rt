@@ -1,6 +1,6 @@
 //! The best loads of a table of arcs, settled on lent slices, and the cut that shows their total to be
-//! the least. Once the arcs are linked, `first_loads` fills the load table, `settle` turns it into the
-//! best loads, `mark_cut` marks the cut, and `write_witness` lists the arcs that enter it.
+//! the least. Once the arcs are linked, `Raising` fills the load table, `Settling` turns it into the
+//! best loads, `mark_cut` marks the cut, and `Cut::write_witness` lists the arcs that enter it.
 #![tactic(auto)]
 
 mod best;
@@ -11,6 +11,6 @@ mod shift;
 mod step;
 mod way;
 
-pub use best::settle;
-pub use cut::{mark_cut, write_witness};
-pub use first::{clear, first_loads};
+pub use best::Settling;
+pub use cut::{Cut, mark_cut};
+pub use first::{Raising, clear};

@@ -3,11 +3,13 @@
 //! node once and at every arc twice.
 ghost use Rattle.std.specs.Prelude.{◌≡◌, ℕ, ◌<◌, ◌≤◌, true, false, length, ◌==◌};
 ghost use Rattle.flow.specs.Ways.{step_from, step_to};
+ghost use Rattle.flow.specs.Trails.{Shut};
 ghost use Rattle.marks.specs.Links.{out_at, into_at, Linked};
 ghost use Rattle.marks.specs.Marks.{load_of, reached_of, depth_of};
 ghost use Rattle.marks.specs.Shown.{shown};
 ghost use Rattle.loads.specs.Steps.{over, Free};
-ghost use Rattle.loads.specs.Search.{queued_at, stepped_of, Finished, Followed, Grown, Queued, Reaches, Sought};
+ghost use Rattle.marks.proofs.Linking.{linked_prop};
+ghost use Rattle.loads.specs.Search.{queued_at, stepped_of, queued_prop, Finished, Followed, Queued, Reaches, Sought};
 
 use super::step::{is_free, step_ends};
 use marks::arcs::Arcs;
@@ -49,84 +51,90 @@ fn reach(nodes: &mut [Mark], u: usize, v: usize, step: Step, count: usize)
     nodes[count].queued = v as u16;
 }
 
-/// Makes a step from a node that is reached, if its place is from `low` on, the step is free and it
-/// reaches another node. Answers how many nodes are in the queue.
-fn step_over(
-    arcs: Arcs,
-    nodes: &mut [Mark],
-    loads: &[u16],
+/// A search for a way of free steps, over the places from `low` on. The nodes reached are queued.
+#[derive(Drop)]
+struct Spread<'a> {
+    arcs: Arcs<'a>,
+    nodes: &'a mut [Mark],
+    loads: &'a [u16],
     low: usize,
-    step: Step,
+    /// How many nodes are in the queue.
     count: usize,
-) -> usize
-    requires nodes { length nodes.old ≡ arcs.nodes }
-    requires places { length loads.now ≡ length arcs.marks.now }
-    requires arc { (shown arcs).arc step.place ≡ true }
-    requires from { reached_of nodes.old (step_from (shown arcs) (over step.place step.along)) ≡ true }
-    requires queued { Queued (shown arcs) nodes.old count }
-    ensures grown { Grown (shown arcs.entry) (load_of loads.now) low nodes.old nodes.new count result }
-    ensures reaches { low ≤ step.place → Free (load_of loads.now) step.place step.along → reached_of nodes.new (step_to (shown arcs.entry) (over step.place step.along)) ≡ true }
-{
-    let (u, v) = step_ends(arcs, step);
-    if (step.place as usize) < low {
-        return count;
-    }
-    if !is_free(loads, step) {
-        return count;
-    }
-    if nodes[v].reached.is_some() {
-        return count;
-    }
-    reach(nodes, u, v, step, count);
-    count + 1
+    ghost sized: { length nodes.now ≡ arcs.nodes },
+    ghost loaded: { length loads.now ≡ length arcs.marks.now },
+    ghost linked: { Linked arcs.marks.now nodes.now 0 } by { linked_prop arcs.marks.now nodes.now 0 },
+    ghost queued: { Queued (shown arcs) nodes.now count } by { queued_prop (shown arcs) nodes.now count },
 }
 
-/// Makes all the steps along the arcs that begin at the node `v`, or all those against the arcs that
-/// end there.
-fn follow(
-    arcs: Arcs,
-    nodes: &mut [Mark],
-    loads: &[u16],
-    low: usize,
-    v: usize,
-    along: bool,
-    mut count: usize,
-) -> usize
-    requires nodes { length nodes.old ≡ arcs.nodes }
-    requires places { length loads.now ≡ length arcs.marks.now }
-    requires linked { Linked arcs.marks.now nodes.old 0 }
-    requires node { v < arcs.nodes }
-    requires from { reached_of nodes.old v ≡ true }
-    requires queued { Queued (shown arcs) nodes.old count }
-    ensures grown { Grown (shown arcs.entry) (load_of loads.now) low nodes.old nodes.new count result }
-    ensures followed { Followed (shown arcs.entry) (load_of loads.now) low nodes.new v along (shown arcs.entry).places }
-{
-    for place in ArcsAt::of_node(nodes, arcs.marks, v, along) {
-        count = step_over(arcs, nodes, loads, low, Step { place, along }, count);
-    }
-    count
-}
+impl Spread<'_> {
+    ghost use Rattle.loads.specs.Went.{Went};
 
-/// Makes all the steps from the node that the queue has as number `done`.
-fn expand(
-    arcs: Arcs,
-    nodes: &mut [Mark],
-    loads: &[u16],
-    low: usize,
-    done: usize,
-    count: usize,
-) -> usize
-    requires nodes { length nodes.old ≡ arcs.nodes }
-    requires places { length loads.now ≡ length arcs.marks.now }
-    requires linked { Linked arcs.marks.now nodes.old 0 }
-    requires queued { Queued (shown arcs) nodes.old count }
-    requires next { done < count }
-    ensures grown { Grown (shown arcs.entry) (load_of loads.now) low nodes.old nodes.new count result }
-    ensures finished { Finished (shown arcs.entry) (load_of loads.now) low nodes.new (queued_at nodes.old done) }
-{
-    let v = nodes[done].queued as usize;
-    let count = follow(arcs, nodes, loads, low, v, true, count);
-    follow(arcs, nodes, loads, low, v, false, count)
+    /// Makes a step from a node that is reached, if its place is from `low` on, the step is free and it
+    /// reaches another node.
+    fn step_over(&mut self, step: Step)
+        requires arc { (shown self.old.arcs).arc step.place ≡ true }
+        requires from { reached_of self.old.nodes.now (step_from (shown self.old.arcs) (over step.place step.along)) ≡ true }
+        ensures went { Went self.old self.new }
+        ensures reaches { self.old.low ≤ step.place → Free (load_of self.old.loads.now) step.place step.along → reached_of self.new.nodes.now (step_to (shown self.old.arcs) (over step.place step.along)) ≡ true }
+    {
+        let (u, v) = step_ends(self.arcs, step);
+        if (step.place as usize) < self.low {
+            return;
+        }
+        if !is_free(self.loads, step) {
+            return;
+        }
+        let mark = self.nodes[v];
+        if mark.reached.is_some() {
+            return;
+        }
+        reach(self.nodes, u, v, step, self.count);
+        self.count += 1;
+    }
+
+    /// Makes all the steps along the arcs that begin at the node `v`, or all those against the arcs
+    /// that end there.
+    fn follow(&mut self, v: usize, along: bool)
+        requires { reached_of self.old.nodes.now v ≡ true }
+        ensures went { Went self.old self.new }
+        ensures followed { Followed (shown self.old.arcs) (load_of self.old.loads.now) self.old.low self.new.nodes.now v along (shown self.old.arcs).places }
+    {
+        let nodes = &mut *self.nodes;
+        for place in ArcsAt::of_node(nodes, self.arcs.marks, v, along) {
+            self.step_over(Step { place, along });
+        }
+    }
+
+    /// Makes all the steps from the node that the queue has as number `done`.
+    fn expand(&mut self, done: usize)
+        requires { done < self.old.count }
+        ensures went { Went self.old self.new }
+        ensures finished { Finished (shown self.old.arcs) (load_of self.old.loads.now) self.old.low self.new.nodes.now (queued_at self.old.nodes.now done) }
+    {
+        let v = self.nodes[done].queued as usize;
+        self.follow(v, true);
+        self.follow(v, false);
+    }
+
+    /// Makes steps until the node `to` is reached or no step leads on, and answers whether it is reached.
+    fn run(&mut self, to: usize) -> bool
+        requires { to < self.old.arcs.nodes }
+        ensures went { Went self.old self.new }
+        ensures target { reached_of self.new.nodes.now to ≡ result }
+        ensures shut { result ≡ false → Shut (shown self.old.arcs) (load_of self.old.loads.now) self.old.low (reached_of self.new.nodes.now) }
+    {
+        let mut done = 0;
+        while done < self.count {
+            let mark = self.nodes[to];
+            if mark.reached.is_some() {
+                return true;
+            }
+            self.expand(done);
+            done += 1;
+        }
+        let mark = self.nodes[to];
+        mark.reached.is_some()
+    }
 }
 
 /// Searches for a way of free steps from the node `from` to the node `to`, over the places from `low`
@@ -149,14 +157,12 @@ pub fn search(
     ensures linked { Linked arcs.entry.marks.now nodes.new 0 }
 {
     begin_search(nodes, from);
-    let mut done = 0;
-    let mut count = 1;
-    while done < count {
-        if nodes[to].reached.is_some() {
-            return true;
-        }
-        count = expand(arcs, nodes, loads, low, done, count);
-        done += 1;
-    }
-    nodes[to].reached.is_some()
+    let mut spread = Spread {
+        arcs,
+        nodes,
+        loads,
+        low,
+        count: 1,
+    };
+    spread.run(to)
 }

@@ -4,11 +4,15 @@ ghost use Rattle.std.specs.List.{AllByRecursion};
 ghost use Rattle.flow.specs.Ways.{Once, Shifted, Slack};
 ghost use Rattle.flow.specs.Trails.{slack_of};
 ghost use Rattle.marks.specs.Marks.{load_of};
+ghost use Rattle.marks.specs.Shown.{shown};
+ghost use Rattle.loads.specs.Search.{Sought};
 ghost use Rattle.loads.specs.Steps.{over, Spare};
+ghost use Rattle.loads.specs.Walk.{way_to};
 ghost use Rattle.loads.specs.Way.{way_of};
 
 use super::way::WayBack;
-use marks::mark::Step;
+use marks::arcs::Arcs;
+use marks::mark::{Mark, Step};
 
 /// The most that can be shifted along a way: at most `most`, and at most what each load that is stepped
 /// against can spare, which keeps 1.
@@ -54,15 +58,20 @@ fn shift(way: WayBack, loads: &mut [u16], by: u16)
     }
 }
 
-/// Shifts the loads along a way by the most that can be, at most `most`. Answers how much.
-pub fn shift_most(way: WayBack, loads: &mut [u16], most: u16) -> u16
-    requires places { length loads.old ≡ length way.arcs.marks.now }
-    requires once { Once (way_of way) }
+/// Shifts the loads along the way that a search found to the node `to` by the most that can be, at most
+/// `most`. Answers how much.
+pub fn shift_most(arcs: Arcs, nodes: &[Mark], to: usize, loads: &mut [u16], most: u16) -> u16
+    requires places { length loads.old ≡ length arcs.marks.now }
     requires room { (k : ℕ) → load_of loads.old k + most < 65536 }
-    requires spare { AllByRecursion (Spare (load_of loads.old)) (way_of way) }
-    ensures slack { result ≡ slack_of (load_of loads.old) most (way_of way.entry) }
-    ensures shifted { Shifted result (way_of way.entry) (load_of loads.old) (load_of loads.new) }
+    requires sought { (low : ℕ) × (from : ℕ) × Sought (shown arcs) (load_of loads.old) low from to nodes.now true }
+    ensures slack { result ≡ slack_of (load_of loads.old) most (way_to (shown arcs.entry) nodes.now to) }
+    ensures shifted { Shifted result (way_to (shown arcs.entry) nodes.now to) (load_of loads.old) (load_of loads.new) }
 {
+    let way = WayBack {
+        arcs,
+        nodes,
+        at: to,
+    };
     let by = slack(way, loads, most);
     shift(way, loads, by);
     by

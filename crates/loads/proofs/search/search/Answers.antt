@@ -1,53 +1,42 @@
-use Rattle.std.proofs.Common.{sym, arith}
+use Rattle.std.proofs.Common.{rules, arith}
 use Rattle.marks.specs.Marks.{load_of}
 use Rattle.marks.specs.Shown.{shown}
-use Rattle.marks.proofs.Fields.{shown_sound}
-use Rattle.loads.proofs.Searches.{begun_trail, begun_stepped, begun_queued, links_stay, finished_more, finished_shut}
+use Rattle.marks.specs.Links.{Linked}
+use Rattle.loads.specs.Search.{Sought}
+use Rattle.loads.proofs.Searches.{begun_trail, begun_stepped, begun_queued, links_stay}
 use Rattle.loads.proofs.search.search.Goals as goal
 
-pub loop-done-init : goal.loop-done-init
-loop-done-init c =
-    let T = shown c.args.arcs in
-    let u = c.args.from in
+pub invariant_of-spread : goal.invariant_of-spread
+invariant_of-spread c =
+    let a = c.args.arcs in
     let begun = c.begin_search.ensures in
-    let ns = c.begin_search.new.nodes in (
-      begun_trail T u ns begun.reached (load_of c.args.loads.now) c.args.low,
-      begun_queued T u ns begun.reached c.requires.from begun.depth begun.queued,
-      links_stay c.args.arcs.marks.now c.args.nodes.now ns c.begin_search.auto.nodes begun.out begun.into c.requires.linked,
-      (λ i l. absurd (omega arith)),
-      omega arith,
-      begun_stepped T u ns begun.reached begun.start,
-    )
-
-pub loop-done-preserved : goal.loop-done-preserved
-loop-done-preserved c =
-    let T = shown c.args.arcs in
-    let f = load_of c.args.loads.now in
-    let inv = c.loop-done.invariant in
-    let ns = c.loop-done.nodes in
-    let ms = c.expand-count.new.nodes in
-    let g = c.expand-count.ensures.grown in
-    let last = c.expand-count.ensures.finished in (
-      g.trail c.args.from inv.0,
-      g.queued,
-      links_stay c.args.arcs.marks.now ns ms g.long g.out g.into inv.2,
-      finished_more T f c.args.low ns ms c.loop-done.done c.loop-done.count c.expand-count.result c.loop-done-test.true g inv.3 last,
-      omega (arith, g.more),
-      g.stepped c.args.from inv.0.start inv.5,
-    )
+    let ns = c.begin_search.new.nodes in
+    record {
+      sized = omega arith;
+      loaded = c.requires.places;
+      linked = links_stay a.marks.now c.args.nodes.now ns c.begin_search.auto.nodes begun.out begun.into c.requires.linked;
+      queued = begun_queued (shown a) c.args.from ns begun.reached c.requires.from begun.depth begun.queued;
+    }
 
 pub returns : goal.returns
 returns c =
-    let arcs = c.args.arcs in
-    let T = shown arcs in
+    let a = c.args.arcs in
+    let T = shown a in
     let f = load_of c.args.loads.now in
-    let inv = c.loop-done.invariant in
-    record {
-      sought = record {
-        trail = inv.0;
-        stepped = inv.5;
-        target = sym c.is_some-2.ensures;
-        shut = λ e. finished_shut T f c.args.low (shown_sound arcs) c.loop-done.nodes c.loop-done.count inv.1 (λ i l. inv.3 i (omega arith));
-      };
-      linked = inv.2;
-    }
+    let low = c.args.low in
+    let u = c.args.from in
+    let begun = c.begin_search.ensures in
+    let ns = c.begin_search.new.nodes in
+    let ms = c.run.new.self.nodes.now in
+    let g = c.run.ensures.went.grown in
+    let start = begun_trail T u ns begun.reached f low in
+    let sought : Sought T f low u c.args.to ms c.run.result = record {
+      trail = g.trail u start;
+      stepped = g.stepped u start.start (begun_stepped T u ns begun.reached begun.start);
+      target = c.run.ensures.target;
+      shut = c.run.ensures.shut;
+    } in
+    let linked : Linked a.marks.now ms 0 = links_stay a.marks.now ns ms g.long g.out g.into
+    (links_stay a.marks.now c.args.nodes.now ns c.begin_search.auto.nodes begun.out begun.into c.requires.linked) in
+    let lent = c.run.ensures.went.lent in
+    search rules
