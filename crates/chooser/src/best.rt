@@ -18,7 +18,7 @@ use filling::fitted::Fitted;
 use lengths::check::check;
 use lengths::table::{FillError, Lengths};
 use listing::count::count_paths;
-use loads::{clear, first_loads, settle};
+use loads::{Raising, Settling, clear};
 use marks::arcs::Arcs;
 use marks::mark::Mark;
 use wiring::Wiring;
@@ -54,8 +54,10 @@ fn balance(nodes: &mut [Mark], places: &mut [Mark], loads: &mut [u16])
     ensures places { places.new ≡ places.old }
 {
     let arcs = arcs_of(places, nodes.len());
-    first_loads(arcs, nodes, loads);
-    settle(arcs, nodes, loads);
+    let mut raising = Raising { arcs, nodes, loads };
+    raising.first_loads();
+    let mut settling = Settling { arcs, nodes, loads };
+    settling.settle();
 }
 
 /// Fills the tables from a wiring of two nodes or more, and finds its best loads.

@@ -18,7 +18,7 @@ use lengths::table::Lengths;
 use listing::count::count_paths;
 use listing::linked::LinkedWiring;
 use listing::links::Links;
-use loads::{mark_cut, write_witness};
+use loads::{Cut, mark_cut};
 use marks::mark::Mark;
 use std::marker::PhantomData;
 use wiring::Wiring;
@@ -50,7 +50,7 @@ fn write_rows<'a, D: Delay, W: Wiring<D>>(
     if count_paths(arcs, loads) > witness.len() {
         return Err(Refusal::Room);
     }
-    let _leads = write_witness(arcs, nodes, witness);
+    let _leads = Cut { arcs, nodes }.write_witness(witness);
     Ok(linked.write_list(loads, words))
 }
 

@@ -32,8 +32,8 @@ returns-then-count_paths-witness g c =
       refl,
     )
 
-pub write_witness-leads-requires-clause-room : goal.write_witness-leads-requires-clause-room
-write_witness-leads-requires-clause-room g c =
+pub write_witness-leads-requires : goal.write_witness-leads-requires
+write_witness-leads-requires g c =
     let A = c.arcs_of-arcs.ensures in let L = g.met.D.Delay.laws in let R = c.requires.ready in let a = c.arcs_of-arcs.result in
     let W = shown_witness L R a A.places A.shown c.requires.cut in
     omega (arith, W.count, paths_number L R a A.places A.shown, c.count_paths.ensures, c.if-count_paths-witness.false)
