@@ -54,10 +54,18 @@ fn ends_in_order(rt: HostRuntime) {
 fn the_first_bad_lead_decides(rt: HostRuntime) {
     let late = lead(0, 1, 1_000_001);
     let crossed = lead(1, 0, 1);
-    assert_eq!(rt; fault(4097, &[crossed]), Err(Fault::Size), "size before leads");
+    assert_eq!(rt;
+        fault(4097, &[crossed]),
+        Err(Fault::Size),
+        "size before leads"
+    );
     assert_eq!(rt; fault(2, &[late, crossed]), Err(Fault::Delay(0)));
     assert_eq!(rt; fault(2, &[None, crossed, late]), Err(Fault::Ends(1)));
-    assert_eq!(rt; fault(2, &[lead(1, 0, 1_000_001)]), Err(Fault::Ends(0)), "ends before delay");
+    assert_eq!(rt;
+        fault(2, &[lead(1, 0, 1_000_001)]),
+        Err(Fault::Ends(0)),
+        "ends before delay"
+    );
 }
 
 #[test]
@@ -72,7 +80,10 @@ fn a_fault_comes_before_a_short_table(rt: HostRuntime) {
         nodes: 2,
         leads: &[lead(0, 1, 1)],
     };
-    assert_eq!(rt; table.fill_to(&crossed), Err(FillError::Unsound(Fault::Ends(0))));
+    assert_eq!(rt;
+        table.fill_to(&crossed),
+        Err(FillError::Unsound(Fault::Ends(0)))
+    );
     assert_eq!(rt; table.fill_to(&fine), Err(FillError::Short));
     assert_eq!(rt; table.fill_from(&fine), Err(FillError::Short));
     assert_eq!(rt; table.at(0).0, 9, "the table stays");

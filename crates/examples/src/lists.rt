@@ -54,7 +54,11 @@ fn choose<D: Delay>(
     loads.copy_from_slice(tables.loads);
     let mut words = [PAST; 24];
     let mut witness = [PAST; 8];
-    let answer = tables.draw_list(&table, &mut words[..word_room], &mut witness[..witness_room]);
+    let answer = tables.draw_list(
+        &table,
+        &mut words[..word_room],
+        &mut witness[..witness_room],
+    );
     Ok(Choice {
         total,
         loads,

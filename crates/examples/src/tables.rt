@@ -63,7 +63,10 @@ fn a_fault_comes_before_any_short_table(rt: HostRuntime) -> Result<(), Fail> {
     let from = Room { from: 1, ..enough };
     let loads = Room { loads: 0, ..enough };
     let marks = Room { marks: 2, ..enough };
-    assert_eq!(rt; refused(&rt, &crossed, to)?, Some(FillError::Unsound(Fault::Ends(0))));
+    assert_eq!(rt;
+        refused(&rt, &crossed, to)?,
+        Some(FillError::Unsound(Fault::Ends(0)))
+    );
     assert_eq!(rt; refused(&rt, &fine, to)?, Some(FillError::Short));
     assert_eq!(rt; refused(&rt, &fine, from)?, Some(FillError::Short));
     assert_eq!(rt; refused(&rt, &fine, loads)?, Some(FillError::Short));

@@ -51,7 +51,10 @@ fn a_detour_is_not_fed(rt: HostRuntime) {
     );
     assert_eq!(rt; classify(&table, &mut to, &mut from, 2), Some((true, true)));
     assert_eq!(rt; classify(&table, &mut to, &mut from, 3), None);
-    assert_eq!(rt; longest_through(&table, &mut to, &mut from, 0), Some(Picoseconds(2)));
+    assert_eq!(rt;
+        longest_through(&table, &mut to, &mut from, 0),
+        Some(Picoseconds(2))
+    );
     assert_eq!(rt; to.at(3).0, 9, "entries past the nodes stay");
 }
 

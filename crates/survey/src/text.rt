@@ -5,8 +5,8 @@ ghost use Rattle.survey.specs.Texts.{mark_of, survey_error_text};
 use crate::{LeadRow, Survey, SurveyError};
 use delay::Delay;
 use std::fmt;
-use wiring::refusals::Refusal;
 use wiring::Lead;
+use wiring::refusals::Refusal;
 
 // y for yes, n for no.
 fn mark(yes: bool) -> char

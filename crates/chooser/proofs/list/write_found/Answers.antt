@@ -19,4 +19,4 @@ mark_cut-requires-clause-best g c =
     let R = c.requires in let A = c.arcs_of.ensures in let ps = c.args.places.now in let N = g.W.Wiring.net c.args.w.now in
     let seen = in_view g.met.D.Delay.laws R c.arcs_of.result A.places A.shown ∙ ap (λ (qs : List Mark). arc_table N (classes qs)) A.places in
     subst (λ (T : Table). Best T (load_of c.args.loads.now)) (sym seen)
-          (best_to_arcs R.sound (classes ps) (load_of c.args.loads.now) R.best)
+    (best_to_arcs R.sound (classes ps) (load_of c.args.loads.now) R.best)

@@ -17,6 +17,6 @@ link_arcs-requires-clause-within g c =
     let H = c.fill_arcs.ensures.arcs in
     let T = arcs_sound c.requires.filled.sound (marks_of K N to from) in
     λ k a.
-        let arc = sym (ap (λ f. f k) H.arc) ∙ a in
-        let b = ap (λ f. f k) H.begin in let e = ap (λ f. f k) H.end in
-        (omega (arith, T.up k arc, T.within k arc, c.requires.linked.nodes), omega (arith, T.within k arc, c.requires.linked.nodes))
+    let arc = sym (ap (λ f. f k) H.arc) ∙ a in
+    let b = ap (λ f. f k) H.begin in let e = ap (λ f. f k) H.end in
+    (omega (arith, T.up k arc, T.within k arc, c.requires.linked.nodes), omega (arith, T.within k arc, c.requires.linked.nodes))

@@ -47,4 +47,4 @@ returns-clause-longest g c =
     let inv = c.loop-place.invariant in
     let end : c.loop-place.place ≡ N.places = omega arith in
     λ F. longest_told K L N to from F c.loop-place.best
-          (subst (λ p. BestBelow K N (λ l. Unit {0}) (through_by K (entry K to) (entry K from)) p c.loop-place.best) end (inv.0 F))
+    (subst (λ p. BestBelow K N (λ l. Unit {0}) (through_by K (entry K to) (entry K from)) p c.loop-place.best) end (inv.0 F))

@@ -8,5 +8,5 @@ returns-clause-filled g c =
     let n : c.nodes.result ≡ N.nodes = c.nodes.ensures in
     let ys = c.args.self.now.table.now in let zs = c.mirror_row.new.table in
     holds_from K N c.requires.sound g.met.D.Delay.laws zs ys c.requires.turned
-          (λ v i. let j : v < c.nodes.result = omega arith in
-          c.mirror_row.ensures.turned v K.zero j ∙ ap (λ m. get_or ys (m - 1 - v) K.zero) n)
+    (λ v i. let j : v < c.nodes.result = omega arith in
+    c.mirror_row.ensures.turned v K.zero j ∙ ap (λ m. get_or ys (m - 1 - v) K.zero) n)
