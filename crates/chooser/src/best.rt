@@ -1,8 +1,7 @@
 //! The best loads of a wiring.
 ghost use Rattle.std.specs.Prelude.{◌≡◌, ◌+◌, ◌-◌, ◌≤◌, length};
 ghost use Rattle.wiring.specs.Net.{Sound};
-ghost use Rattle.lengths.specs.Asked.{Filled};
-ghost use Rattle.lengths.specs.Tables.{Refilled};
+ghost use Rattle.lengths.specs.Pairs.{FilledIn, PairRefilled};
 ghost use Rattle.flow.specs.Loads.{Best};
 ghost use Rattle.flow.specs.Table.{Joined};
 ghost use Rattle.marks.specs.Links.{Linked};
@@ -16,7 +15,8 @@ use crate::tables::Tables;
 use delay::Delay;
 use filling::fitted::Fitted;
 use lengths::check::check;
-use lengths::table::{FillError, Lengths};
+use lengths::pair::LengthPair;
+use lengths::table::FillError;
 use listing::count::count_paths;
 use loads::{Raising, Settling, clear};
 use marks::arcs::Arcs;
@@ -74,28 +74,25 @@ pub(crate) fn find_loads<D: Delay, W: Wiring<D>>(w: &W, tables: &mut Fitted<D>, 
 }
 
 /// Fills the tables from a wiring and finds its best loads; answers their total.
-fn settle_loads<'a, D: Delay, W: Wiring<D>>(
+fn settle_loads<D: Delay, W: Wiring<D>>(
     w: &W,
-    to: &mut Lengths<'a, D>,
-    from: &mut Lengths<'a, D>,
+    lengths: &mut LengthPair<D>,
     marks: &mut [Mark],
     loads: &mut [u16],
 ) -> usize
     requires sound { Sound D.Delay.kind (W.Wiring.net w.now) }
-    requires to_room { (W.Wiring.net w.now).nodes ≤ length to.old.table.now }
-    requires from_room { (W.Wiring.net w.now).nodes ≤ length from.old.table.now }
+    requires to_room { (W.Wiring.net w.now).nodes ≤ length lengths.old.to.table.now }
+    requires from_room { (W.Wiring.net w.now).nodes ≤ length lengths.old.from.table.now }
     requires marks { (W.Wiring.net w.now).nodes + (W.Wiring.net w.now).places ≤ length marks.old }
     requires loads { length loads.old ≡ (W.Wiring.net w.now).places }
-    ensures filled { Filled D.Delay.kind (W.Wiring.net w.now) to.new.table.now from.new.table.now }
+    ensures filled { FilledIn D.Delay.kind (W.Wiring.net w.now) lengths.new }
     ensures best { HoldsBest D.Delay.kind (W.Wiring.net w.now) loads.new result }
-    ensures to_rest { Refilled (W.Wiring.net w.now).nodes to.old to.new }
-    ensures from_rest { Refilled (W.Wiring.net w.now).nodes from.old from.new }
+    ensures rest { PairRefilled (W.Wiring.net w.now).nodes lengths.old lengths.new }
 {
     let (nodes, rest) = marks.split_at_mut(w.nodes());
     let places = &mut rest[..w.places()];
     let mut tables = Fitted {
-        to,
-        from,
+        lengths,
         nodes,
         places,
     };
@@ -122,11 +119,10 @@ impl<D: Delay> Tables<'_, D> {
     /// all tables as they were: a fault of the wiring is told before a table that is too short.
     pub fn best_loads<W: Wiring<D>>(&mut self, w: &W) -> Result<usize, FillError>
         ensures answer { elim result [
-          | Ok total ↦ Filled D.Delay.kind (W.Wiring.net w.now) self.new.to.table.now self.new.from.table.now
+          | Ok total ↦ FilledIn D.Delay.kind (W.Wiring.net w.now) self.new.lengths
               × HoldsBest D.Delay.kind (W.Wiring.net w.now) (take (W.Wiring.net w.now).places self.new.loads.now) total
               × RoomFor (W.Wiring.net w.now) (sizes self.old)
-              × Refilled (W.Wiring.net w.now).nodes self.old.to self.new.to
-              × Refilled (W.Wiring.net w.now).nodes self.old.from self.new.from
+              × PairRefilled (W.Wiring.net w.now).nodes self.old.lengths self.new.lengths
               × (drop (W.Wiring.net w.now).places self.new.loads.now ≡ drop (W.Wiring.net w.now).places self.old.loads.now)
           | Err e ↦ NotLoaded D.Delay.kind (W.Wiring.net w.now) (sizes self.old) e
               × TablesKept self.old self.new
@@ -136,13 +132,13 @@ impl<D: Delay> Tables<'_, D> {
         check(w)?;
         let nodes = w.nodes();
         let places = w.places();
-        if self.to.len() < nodes || self.from.len() < nodes {
+        if self.lengths.to.len() < nodes || self.lengths.from.len() < nodes {
             return Err(FillError::Short);
         }
         if self.loads.len() < places || self.marks.len() < nodes + places {
             return Err(FillError::Short);
         }
         let loads = &mut self.loads[..places];
-        Ok(settle_loads(w, &mut self.to, &mut self.from, self.marks, loads))
+        Ok(settle_loads(w, &mut self.lengths, self.marks, loads))
     }
 }

@@ -2,7 +2,7 @@
 ghost use Rattle.std.specs.Prelude.{◌≡◌, ◌+◌, ◌≤◌, length};
 ghost use Rattle.wiring.specs.Net.{Sound};
 ghost use Rattle.flow.specs.Loads.{Tight};
-ghost use Rattle.lengths.specs.Tables.{Refilled};
+ghost use Rattle.lengths.specs.Pairs.{PairRefilled};
 ghost use Rattle.marks.specs.Marks.{classes, load_of, reached_of};
 ghost use Rattle.cover.specs.Arcs.{arc_table as arcs_in};
 ghost use Rattle.filling.specs.Fitted.{Fits, Measured};
@@ -14,7 +14,7 @@ use crate::tables::Tables;
 use delay::Delay;
 use drawing::Counts;
 use filling::fitted::Fitted;
-use lengths::table::Lengths;
+use lengths::pair::LengthPair;
 use listing::count::count_paths;
 use listing::linked::LinkedWiring;
 use listing::links::Links;
@@ -91,10 +91,9 @@ fn draw_found<D: Delay, W: Wiring<D>>(
 }
 
 /// The same, with the marks cut into those of the nodes and those of the places.
-fn draw_on<'a, D: Delay, W: Wiring<D>>(
+fn draw_on<D: Delay, W: Wiring<D>>(
     w: &W,
-    to: &mut Lengths<'a, D>,
-    from: &mut Lengths<'a, D>,
+    lengths: &mut LengthPair<D>,
     marks: &mut [Mark],
     loads: &mut [u16],
     words: &mut [u16],
@@ -102,19 +101,17 @@ fn draw_on<'a, D: Delay, W: Wiring<D>>(
 ) -> Result<Counts, Refusal>
     requires sound { Sound D.Delay.kind (W.Wiring.net w.now) }
     requires two { 2 ≤ (W.Wiring.net w.now).nodes }
-    requires to_room { (W.Wiring.net w.now).nodes ≤ length to.old.table.now }
-    requires from_room { (W.Wiring.net w.now).nodes ≤ length from.old.table.now }
+    requires to_room { (W.Wiring.net w.now).nodes ≤ length lengths.old.to.table.now }
+    requires from_room { (W.Wiring.net w.now).nodes ≤ length lengths.old.from.table.now }
     requires marks { (W.Wiring.net w.now).nodes + (W.Wiring.net w.now).places ≤ length marks.old }
     requires loads { length loads.old ≡ (W.Wiring.net w.now).places }
     ensures rows { Rows D.Delay.kind (W.Wiring.net w.now) words.old witness.old words.new witness.new result }
-    ensures to_rest { Refilled (W.Wiring.net w.now).nodes to.old to.new }
-    ensures from_rest { Refilled (W.Wiring.net w.now).nodes from.old from.new }
+    ensures rest { PairRefilled (W.Wiring.net w.now).nodes lengths.old lengths.new }
 {
     let (nodes, rest) = marks.split_at_mut(w.nodes());
     let places = &mut rest[..w.places()];
     let mut tables = Fitted {
-        to,
-        from,
+        lengths,
         nodes,
         places,
     };
@@ -146,8 +143,7 @@ impl<D: Delay> Tables<'_, D> {
         let loads = &mut self.loads[..w.places()];
         draw_on(
             w,
-            &mut self.to,
-            &mut self.from,
+            &mut self.lengths,
             self.marks,
             loads,
             words,

@@ -1,12 +1,14 @@
 //! The longest lengths to and from every node: each lead is visited once, by the links at its head.
 ghost use Rattle.std.specs.Prelude.{◌≡◌, ◌≤◌, length};
 ghost use Rattle.wiring.specs.Net.{Sound};
+ghost use Rattle.lengths.specs.Pairs.{FilledIn, PairRefilled};
 ghost use Rattle.lengths.specs.Tables.{HoldsTo, HoldsFrom, Refilled};
 ghost use Rattle.filling.specs.Leads.{LinkedLeads};
 
 use crate::leads::link_leads;
 use delay::Delay;
 use lengths::measure::{Measure, longer};
+use lengths::pair::LengthPair;
 use lengths::table::Lengths;
 use marks::follow::ArcsAt;
 use marks::mark::Mark;
@@ -83,4 +85,24 @@ pub fn measure_from<D: Delay, W: Wiring<D>>(
     let turned = turn_round(w);
     measure_to(&turned, from, nodes, places);
     from.turn_back(w);
+}
+
+/// Fills both tables; the leads of the wiring are linked then.
+pub(crate) fn measure_both<D: Delay, W: Wiring<D>>(
+    w: &W,
+    lengths: &mut LengthPair<D>,
+    nodes: &mut [Mark],
+    places: &mut [Mark],
+)
+    requires sound { Sound D.Delay.kind (W.Wiring.net w.now) }
+    requires nodes { length nodes.old ≡ (W.Wiring.net w.now).nodes }
+    requires places { length places.old ≡ (W.Wiring.net w.now).places }
+    requires to_room { (W.Wiring.net w.now).nodes ≤ length lengths.old.to.table.now }
+    requires from_room { (W.Wiring.net w.now).nodes ≤ length lengths.old.from.table.now }
+    ensures filled { FilledIn D.Delay.kind (W.Wiring.net w.now) lengths.new }
+    ensures rest { PairRefilled (W.Wiring.net w.now).nodes lengths.old lengths.new }
+    ensures linked { LinkedLeads D.Delay.kind (W.Wiring.net w.now) nodes.new places.new }
+{
+    measure_from(w, &mut lengths.from, nodes, places);
+    measure_to(w, &mut lengths.to, nodes, places);
 }

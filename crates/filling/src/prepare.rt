@@ -1,8 +1,7 @@
 //! All that the search for loads starts from.
 ghost use Rattle.std.specs.Prelude.{◌≤◌};
 ghost use Rattle.wiring.specs.Net.{Sound};
-ghost use Rattle.wiring.specs.Lengths.{marks_of};
-ghost use Rattle.lengths.specs.Tables.{entry};
+ghost use Rattle.lengths.specs.Pairs.{marks_held};
 ghost use Rattle.marks.specs.Links.{Linked};
 ghost use Rattle.filling.specs.Leads.{LinkedLeads};
 ghost use Rattle.filling.specs.Ends.{HoldsArcs};
@@ -10,7 +9,7 @@ ghost use Rattle.filling.specs.Fitted.{Fits, Measured};
 
 use crate::ends::link_ends;
 use crate::fitted::Fitted;
-use crate::measure::{measure_from, measure_to};
+use crate::measure::measure_both;
 use delay::Delay;
 use wiring::Wiring;
 
@@ -22,8 +21,7 @@ impl<D: Delay> Fitted<'_, '_, D> {
         ensures measured { Measured D.Delay.kind (W.Wiring.net w.now) self.old self.new }
         ensures linked { LinkedLeads D.Delay.kind (W.Wiring.net w.now) self.new.nodes.now self.new.places.now }
     {
-        measure_from(w, self.from, self.nodes, self.places);
-        measure_to(w, self.to, self.nodes, self.places);
+        measure_both(w, self.lengths, self.nodes, self.places);
     }
 
     /// Fills both length tables, and the marks with the arcs of all leads, linked at their nodes.
@@ -33,10 +31,10 @@ impl<D: Delay> Fitted<'_, '_, D> {
         requires two { 2 ≤ (W.Wiring.net w.now).nodes }
         requires fits { Fits (W.Wiring.net w.now) self.old }
         ensures measured { Measured D.Delay.kind (W.Wiring.net w.now) self.old self.new }
-        ensures arcs { HoldsArcs (W.Wiring.net w.now) (marks_of D.Delay.kind (W.Wiring.net w.now) (entry D.Delay.kind self.new.to.now.table.now) (entry D.Delay.kind self.new.from.now.table.now)) self.new.places.now }
+        ensures arcs { HoldsArcs (W.Wiring.net w.now) (marks_held D.Delay.kind (W.Wiring.net w.now) self.new.lengths.now) self.new.places.now }
         ensures linked { Linked self.new.places.now self.new.nodes.now 0 }
     {
         self.measure(w);
-        link_ends(w, self.to, self.from, self.nodes, self.places);
+        link_ends(w, self.lengths, self.nodes, self.places);
     }
 }

@@ -4,5 +4,6 @@
 pub mod asked;
 pub mod check;
 pub mod measure;
+pub mod pair;
 pub mod table;
 pub mod wording;

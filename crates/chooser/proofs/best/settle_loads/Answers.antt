@@ -14,7 +14,7 @@ use Rattle.chooser.proofs.best.settle_loads.Goals as goal
 pub returns-then-nodes-lt-FEWEST_NODES-clause-best : goal.returns-then-nodes-lt-FEWEST_NODES-clause-best
 returns-then-nodes-lt-FEWEST_NODES-clause-best g c =
     let K = g.D.Delay.kind in let L = g.met.D.Delay.laws in let N = g.W.Wiring.net c.args.w.now in let t = c.measure.new.self in
-    let to = t.to.now.table.now in let from = t.from.now.table.now in let F = c.measure.ensures.measured.filled in
+    let to = t.lengths.now.to.table.now in let from = t.lengths.now.from.table.now in let F = c.measure.ensures.measured.filled in
     let few : N.nodes < 2 = omega (arith, c.nodes-2.ensures, c.if-nodes-lt-FEWEST_NODES.true) in
     let m = marks_of K N (entry K to) (entry K from) in
     let xs = c.clear.new.loads in

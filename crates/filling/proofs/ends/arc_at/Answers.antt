@@ -11,7 +11,7 @@ use Rattle.filling.proofs.ends.arc_at.Goals as goal
 pub returns-clause-ends : goal.returns-clause-ends
 returns-clause-ends g c =
     let K = g.D.Delay.kind in let N = g.W.Wiring.net c.args.w.now in let ns = c.args.nodes.now in
-    let to = entry K c.args.to.now.table.now in let from = entry K c.args.from.now.table.now in
+    let to = entry K c.args.lengths.now.to.table.now in let from = entry K c.args.lengths.now.from.table.now in
     let m : Marks = marks_of K N to from in
     let k = c.args.k in let l = c.in_ok-lead.lead in let class : Bool × Bool = (c.in_ok-drains.drains, c.in_ok-drains.fed) in
     let at : N.at k ≡ Some l = sym c.lead.ensures ∙ c.in_ok-lead.was in

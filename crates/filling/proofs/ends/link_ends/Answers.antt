@@ -13,7 +13,7 @@ fill_arcs-requires-clause-links g c =
 pub link_arcs-requires-clause-within : goal.link_arcs-requires-clause-within
 link_arcs-requires-clause-within g c =
     let K = g.D.Delay.kind in let N = g.W.Wiring.net c.args.w.now in
-    let to = entry K c.args.to.now.table.now in let from = entry K c.args.from.now.table.now in
+    let to = entry K c.args.lengths.now.to.table.now in let from = entry K c.args.lengths.now.from.table.now in
     let H = c.fill_arcs.ensures.arcs in
     let T = arcs_sound c.requires.filled.sound (marks_of K N to from) in
     λ k a.

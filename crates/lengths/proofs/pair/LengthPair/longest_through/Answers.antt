@@ -3,12 +3,12 @@ use Rattle.wiring.specs.Lengths.{through_by}
 use Rattle.lengths.specs.Tables.{entry}
 use Rattle.lengths.specs.Asked.{of_lead, ThroughOf}
 use Rattle.lengths.proofs.Asking.{through_told}
-use Rattle.lengths.proofs.asked.longest_through.Goals as goal
+use Rattle.lengths.proofs.pair.LengthPair.longest_through.Goals as goal
 
 pub returns-clause-longest : goal.returns-clause-longest
 returns-clause-longest g c =
     let K = g.D.Delay.kind in let N = g.W.Wiring.net c.args.w.now in
-    let to = c.args.to.now.table.now in let from = c.args.from.now.table.now in
+    let to = c.args.self.now.to.table.now in let from = c.args.self.now.from.table.now in
     let l = c.in_ok-lead.lead in
     let at : N.at c.args.place ≡ Some l = sym c.lead.ensures ∙ c.in_ok-lead.was in
     let sum : c.plus.result ≡ through_by K (entry K to) (entry K from) l = cc in

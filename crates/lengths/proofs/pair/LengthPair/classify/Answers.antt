@@ -4,12 +4,12 @@ use Rattle.wiring.specs.Lengths.{type_by}
 use Rattle.lengths.specs.Tables.{entry}
 use Rattle.lengths.specs.Asked.{of_lead, TypeOf}
 use Rattle.lengths.proofs.Asking.{type_told}
-use Rattle.lengths.proofs.asked.classify.Goals as goal
+use Rattle.lengths.proofs.pair.LengthPair.classify.Goals as goal
 
 pub returns-clause-types : goal.returns-clause-types
 returns-clause-types g c =
     let K = g.D.Delay.kind in let N = g.W.Wiring.net c.args.w.now in
-    let to = c.args.to.now.table.now in let from = c.args.from.now.table.now in
+    let to = c.args.self.now.to.table.now in let from = c.args.self.now.from.table.now in
     let l = c.in_ok-lead.lead in
     let at : N.at c.args.place ≡ Some l = sym c.lead.ensures ∙ c.in_ok-lead.was in
     let drains : c.level-drains.result ≡ level K (K.plus l.delay (entry K from l.head)) (entry K from l.tail) = cc in
