@@ -2,6 +2,7 @@
 use chooser::tables::Tables;
 use delay::{Contact, Delay, Early, Picoseconds};
 use lengths::check::check;
+use lengths::pair::LengthPair;
 use lengths::table::{FillError, Lengths};
 use marks::mark::Mark;
 use netlist::{KindName, Netlist, read_netlist};
@@ -51,8 +52,10 @@ fn choose_for<D: Delay, W: Wiring<D>>(heap: Global, w: &W) -> Result<Choice, Sur
     let mut loads = vec![in heap; 0u16; w.places()]?;
     let mut marks = vec![in heap; Mark::VACANT; w.nodes() + w.places()]?;
     let mut tables = Tables {
-        to: Lengths::new(to_row.as_mut_slice()),
-        from: Lengths::new(from_row.as_mut_slice()),
+        lengths: LengthPair {
+            to: Lengths::new(to_row.as_mut_slice()),
+            from: Lengths::new(from_row.as_mut_slice()),
+        },
         loads: loads.as_mut_slice(),
         marks: marks.as_mut_slice(),
     };

@@ -4,6 +4,7 @@ ghost use Rattle.std.specs.Prelude.{◌≤◌};
 use chooser::tables::Tables;
 use delay::{Contact, Delay, Early, Picoseconds};
 use drawing::Counts;
+use lengths::pair::LengthPair;
 use lengths::table::Lengths;
 use marks::mark::Mark;
 use std::alloc::Global;
@@ -42,8 +43,10 @@ fn choose<D: Delay>(
     let mut scratch = [PAST; 8];
     let mut marks = [Mark::VACANT; 16];
     let mut tables = Tables {
-        to: Lengths::new(to_row.as_mut_slice()),
-        from: Lengths::new(from_row.as_mut_slice()),
+        lengths: LengthPair {
+            to: Lengths::new(to_row.as_mut_slice()),
+            from: Lengths::new(from_row.as_mut_slice()),
+        },
         loads: &mut scratch,
         marks: &mut marks,
     };

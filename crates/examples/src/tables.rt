@@ -4,8 +4,8 @@ ghost use Rattle.std.specs.Prelude.{◌≤◌};
 use crate::limits::{Place, chain, lead};
 use chooser::tables::Tables;
 use delay::{Early, Picoseconds};
-use lengths::asked::longest_path;
 use lengths::check::Fault;
+use lengths::pair::LengthPair;
 use lengths::table::{FillError, Lengths};
 use marks::mark::Mark;
 use std::process::Abort;
@@ -34,8 +34,10 @@ fn refused(rt: &impl Abort, leads: &[Place], room: Room) -> Result<Option<FillEr
     let mut loads = [9; 1];
     let mut marks = [Mark::VACANT; 3];
     let mut tables = Tables {
-        to: Lengths::new(&mut to_row[..room.to]),
-        from: Lengths::new(&mut from_row[..room.from]),
+        lengths: LengthPair {
+            to: Lengths::new(&mut to_row[..room.to]),
+            from: Lengths::new(&mut from_row[..room.from]),
+        },
         loads: &mut loads[..room.loads],
         marks: &mut marks[..room.marks],
     };
@@ -45,7 +47,7 @@ fn refused(rt: &impl Abort, leads: &[Place], room: Room) -> Result<Option<FillEr
     };
     assert!(rt; to_row[0].0 == 9 && to_row[1].0 == 9);
     assert!(rt; from_row[0].0 == 9 && from_row[1].0 == 9);
-    assert!(rt; loads[0] == 9 && !marks[0].arc && !marks[1].arc && !marks[2].arc);
+    assert!(rt; loads[0] == 9 && marks[0].arc.is_none() && marks[1].arc.is_none() && marks[2].arc.is_none());
     Ok(Some(why))
 }
 
@@ -87,16 +89,18 @@ fn the_longest_chain_has_one_load(rt: HostRuntime) -> Result<(), Fail> {
     let mut loads = [0; 4095];
     let mut marks = vec![in rt.alloc(); Mark::VACANT; 8191]?;
     let mut tables = Tables {
-        to: Lengths::new(&mut to_row),
-        from: Lengths::new(&mut from_row),
+        lengths: LengthPair {
+            to: Lengths::new(&mut to_row),
+            from: Lengths::new(&mut from_row),
+        },
         loads: &mut loads,
         marks: marks.as_mut_slice(),
     };
     let total = tables.best_loads(&table);
     assert_eq!(rt; total, Ok(1));
-    assert_eq!(rt; tables.to.at(4095).0, 4_095_000_000);
-    assert_eq!(rt; tables.from.at(0).0, 4_095_000_000);
-    let longest = longest_path(&table, &mut tables.to, &mut tables.from);
+    assert_eq!(rt; tables.lengths.to.at(4095).0, 4_095_000_000);
+    assert_eq!(rt; tables.lengths.from.at(0).0, 4_095_000_000);
+    let longest = tables.lengths.longest_path(&table);
     assert_eq!(rt; longest, Some(Picoseconds(4_095_000_000)));
     Ok(())
 }
@@ -113,14 +117,16 @@ fn the_loads_of_a_detour(rt: HostRuntime) {
     let mut loads = [9; 4];
     let mut marks = [Mark::VACANT; 6];
     let mut tables = Tables {
-        to: Lengths::new(&mut to_row),
-        from: Lengths::new(&mut from_row),
+        lengths: LengthPair {
+            to: Lengths::new(&mut to_row),
+            from: Lengths::new(&mut from_row),
+        },
         loads: &mut loads,
         marks: &mut marks,
     };
     let total = tables.best_loads(&table);
     assert_eq!(rt; total, Ok(2));
-    assert_eq!(rt; tables.to.at(3).0, 9, "entries past the nodes stay");
+    assert_eq!(rt; tables.lengths.to.at(3).0, 9, "entries past the nodes stay");
     assert!(rt; loads == [1, 1, 1, 9], "entries past the places stay");
 }
 
@@ -142,13 +148,15 @@ fn the_loads_of_the_early_kind(rt: HostRuntime) {
     let mut loads = [0; 2];
     let mut marks = [Mark::VACANT; 4];
     let mut tables = Tables {
-        to: Lengths::new(&mut to_row),
-        from: Lengths::new(&mut from_row),
+        lengths: LengthPair {
+            to: Lengths::new(&mut to_row),
+            from: Lengths::new(&mut from_row),
+        },
         loads: &mut loads,
         marks: &mut marks,
     };
     let total = tables.best_loads(&table);
     assert_eq!(rt; total, Ok(2));
-    let longest = longest_path(&table, &mut tables.to, &mut tables.from);
+    let longest = tables.lengths.longest_path(&table);
     assert_eq!(rt; longest, Some(Early(Picoseconds(3))));
 }

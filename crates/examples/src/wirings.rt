@@ -1,7 +1,7 @@
 //! Small wirings: the turned view, and questions once the lengths are there.
 use crate::limits::lead;
 use delay::{Early, Picoseconds};
-use lengths::asked::{classify, longest_through, work_out};
+use lengths::pair::LengthPair;
 use lengths::table::Lengths;
 use wiring::{Lead, Table, Turned, Wiring, turn_round};
 
@@ -37,25 +37,18 @@ fn a_detour_is_not_fed(rt: HostRuntime) {
     };
     let mut to_row = [Picoseconds(9); 4];
     let mut from_row = [Picoseconds(9); 3];
-    let mut to = Lengths::new(&mut to_row);
-    let mut from = Lengths::new(&mut from_row);
-    let longest = work_out(&table, &mut to, &mut from);
+    let mut lengths = LengthPair {
+        to: Lengths::new(&mut to_row),
+        from: Lengths::new(&mut from_row),
+    };
+    let longest = lengths.work_out(&table);
     assert_eq!(rt; longest, Ok(Some(Picoseconds(3))));
-    assert_eq!(rt;
-        classify(&table, &mut to, &mut from, 0),
-        Some((false, true))
-    );
-    assert_eq!(rt;
-        classify(&table, &mut to, &mut from, 1),
-        Some((true, false))
-    );
-    assert_eq!(rt; classify(&table, &mut to, &mut from, 2), Some((true, true)));
-    assert_eq!(rt; classify(&table, &mut to, &mut from, 3), None);
-    assert_eq!(rt;
-        longest_through(&table, &mut to, &mut from, 0),
-        Some(Picoseconds(2))
-    );
-    assert_eq!(rt; to.at(3).0, 9, "entries past the nodes stay");
+    assert_eq!(rt; lengths.classify(&table, 0), Some((false, true)));
+    assert_eq!(rt; lengths.classify(&table, 1), Some((true, false)));
+    assert_eq!(rt; lengths.classify(&table, 2), Some((true, true)));
+    assert_eq!(rt; lengths.classify(&table, 3), None);
+    assert_eq!(rt; lengths.longest_through(&table, 0), Some(Picoseconds(2)));
+    assert_eq!(rt; lengths.to.at(3).0, 9, "entries past the nodes stay");
 }
 
 #[test]
@@ -77,13 +70,12 @@ fn the_early_kind_takes_the_short_way(rt: HostRuntime) {
     };
     let mut to_row = [Early(Picoseconds(0)); 2];
     let mut from_row = [Early(Picoseconds(0)); 2];
-    let mut to = Lengths::new(&mut to_row);
-    let mut from = Lengths::new(&mut from_row);
-    let longest = work_out(&table, &mut to, &mut from);
+    let mut lengths = LengthPair {
+        to: Lengths::new(&mut to_row),
+        from: Lengths::new(&mut from_row),
+    };
+    let longest = lengths.work_out(&table);
     assert_eq!(rt; longest, Ok(Some(Early(Picoseconds(3)))));
-    assert_eq!(rt;
-        classify(&table, &mut to, &mut from, 0),
-        Some((false, false))
-    );
-    assert_eq!(rt; classify(&table, &mut to, &mut from, 1), Some((true, true)));
+    assert_eq!(rt; lengths.classify(&table, 0), Some((false, false)));
+    assert_eq!(rt; lengths.classify(&table, 1), Some((true, true)));
 }

@@ -12,11 +12,16 @@ loop-node-preserved g c =
     let inv = c.loop-node.invariant in let v = c.loop-node.node in
     let inside : v < N.nodes = omega arith in
     let items = c.in_ok-push.ensures.items in
-    let to_read = c.at.ensures.read ∙ ap (λ xs. entry K xs v) inv.1 in
-    let from_read = c.at-in-loop-node.ensures.read ∙ ap (λ xs. entry K xs v) inv.2 in
+    let to_read = c.at.ensures.read ∙ ap (λ xs. entry K xs v) inv.1.to.0 in
+    let from_read = c.at-in-loop-node.ensures.read ∙ ap (λ xs. entry K xs v) inv.1.from.0 in
     let row : NodeRow g.row.D.Denot = record { to = c.at.result; from = c.at-in-loop-node.result } in
     let told : NodeTold K N v row = record {
       to_is = subst (To K N v) (sym to_read) (c.requires.to_is.longest v inside);
       from_is = subst (From K N v) (sym from_read) (c.requires.from_is.longest v inside);
-    } in
-    (simp items (rows_more (NodeTold K N) (vec_items c.loop-node.rows) v row inv.0 told), c.at.ensures.kept.0 ∙ inv.1, c.at-in-loop-node.ensures.kept.0 ∙ inv.2)
+    } in (
+      simp items (rows_more (NodeTold K N) (vec_items c.loop-node.rows) v row inv.0 told),
+      record {
+        to = (c.at.ensures.kept.0 ∙ inv.1.to.0, c.at.ensures.kept.1 ∙ inv.1.to.1);
+        from = (c.at-in-loop-node.ensures.kept.0 ∙ inv.1.from.0, c.at-in-loop-node.ensures.kept.1 ∙ inv.1.from.1);
+      },
+    )
