@@ -1,12 +1,12 @@
 -- A search that goes on.
-use Rattle.std.proofs.Common.{ℕ, refl, ◌∙◌, subst}
+use Rattle.std.proofs.Common.{ℕ, ◌∙◌, subst}
 use Rattle.marks.specs.declared.arcs.Arcs.{Arcs}
 use Rattle.marks.specs.Marks.{load_of}
 use Rattle.marks.specs.Shown.{shown}
 use Rattle.loads.specs.declared.search.Spread.{Spread}
 use Rattle.loads.specs.Search.{Grown}
 use Rattle.loads.specs.Went.{Went}
-use Rattle.loads.proofs.Searches.{grown_none, grown_then}
+use Rattle.loads.proofs.Searches.{grown_then}
 
 -- what is said over the arcs and loads of a later state holds over those of an earlier one
 pub moved : (a b : Spread) → Went a b → (P : Arcs → (ℕ → ℕ) → ℕ → Type 0) → P b.arcs (load_of b.loads.now) b.low → P a.arcs (load_of a.loads.now) a.low
@@ -14,15 +14,6 @@ moved a b W P h =
     subst (λ (low : ℕ). P a.arcs (load_of a.loads.now) low) W.low
     (subst (λ xs. P a.arcs (load_of xs) b.low) W.loads
     (subst (λ (A : Arcs). P A (load_of b.loads.now) b.low) W.arcs h))
-
-pub went_none : (a : Spread) → Went a a
-went_none a = record {
-  arcs = refl;
-  loads = refl;
-  low = refl;
-  lent = refl;
-  grown = grown_none (shown a.arcs) (load_of a.loads.now) a.low a.nodes.now a.count a.queued;
-}
 
 pub went_then : (a b c : Spread) → Went a b → Went b c → Went a c
 went_then a b c W V = record {

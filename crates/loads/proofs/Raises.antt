@@ -3,14 +3,12 @@ use Rattle.std.proofs.Common.{◌≡◌, ℕ, ◌+◌, ◌-◌, ◌<◌, ◌≤�
 use mathlib.Core.Path.{fun_ext}
 use mathlib.Core.Logic.{∥∥₁_elim}
 use Rattle.std.proofs.Props.{props}
-use Rattle.std.proofs.lemmas.Bool.{cases_eq, cases_Bool, eq-eqb, ne_eqb}
+use Rattle.std.proofs.lemmas.Bool.{cases_Bool, eq-eqb}
 use Rattle.wiring.specs.Lists.{count_on}
 use Rattle.flow.specs.Table.{Table, Sound, Joined, begins}
 use Rattle.flow.specs.Loads.{Balanced, Loads, total}
 use Rattle.flow.specs.Chains.{Chain, raised}
-use Rattle.flow.specs.Trails.{put}
 use Rattle.flow.specs.Ways.{step_from, step_to}
-use Rattle.flow.proofs.Seek.{put_at, put_off}
 use Rattle.flow.proofs.Sums.{where_zero}
 use Rattle.flow.proofs.Cuts.{at_most_total}
 use Rattle.flow.proofs.Chains.{chain_once, raised_balanced}
@@ -23,16 +21,6 @@ use Rattle.marks.specs.Shown.{shown}
 use Rattle.marks.proofs.Following.{head_some, linked_first}
 use Rattle.loads.specs.Raise.{Raised, RaisedOn, RaisedThrough, far_end}
 use Rattle.loads.specs.Steps.{over}
-
--- one cell more
-pub raise_cell : (f : ℕ → ℕ) (j k : ℕ) → put f j (f j + 1) k ≡ raised f (j ∷ []) k
-raise_cell f j k = ⊎_elim (λ e. put_at f j (f j + 1) k e ∙ at e) (λ n. put_off f j (f j + 1) k n ∙ off n) (cases_eq j k)
-  where
-    at : j ≡ k → f j + 1 ≡ f k + (cond (eqb k j) 1 0 + 0)
-    at e = let one = ap (λ (b : Bool). cond {A = ℕ} b 1 0) (eq-eqb k j (sym e)) in let same = ap f e in omega arith
-
-    off : (j ≡ k → ⊥) → f k ≡ f k + (cond (eqb k j) 1 0 + 0)
-    off n = let none = ap (λ (b : Bool). cond {A = ℕ} b 1 0) (ne_eqb k j (λ e. n (sym e))) in omega arith
 
 pub raise_le : (f : ℕ → ℕ) (j k : ℕ) → raised f (j ∷ []) k ≤ f k + 1
 raise_le f j k = go (eqb k j)

@@ -1,5 +1,5 @@
 -- What shifts along ways come to, and what a search that finds none shows.
-use Rattle.std.proofs.Common.{◌≡◌, ℕ, suc, ◌+◌, ◌-◌, ◌<◌, ◌≤◌, Bool, true, false, ◌⊎◌, List, ◌∷◌, sym, refl, subst, inl, inr, ⊎_elim, add-one, arith}
+use Rattle.std.proofs.Common.{◌≡◌, ℕ, suc, ◌+◌, ◌-◌, ◌<◌, ◌≤◌, Bool, true, false, ◌⊎◌, List, ◌∷◌, sym, refl, subst, inl, inr, add-one, arith}
 use Rattle.std.proofs.lemmas.Bool.{cases_Bool}
 use Rattle.std.proofs.ByRecursion.{All-weaker}
 use Rattle.flow.specs.Table.{Table, Sound}
@@ -102,10 +102,6 @@ settled_small T f k h l = record { loads = h.loads; least = h.least; first = sub
     go : (T.arc k ≡ true) ⊎ (T.arc k ≡ false) → FirstTo T f (suc k)
     go (inl a) = first_one T f k a (omega (arith, h.loads.arcs k a)) h.first
     go (inr a) = first_vacant T f k (h.loads.vacant k a) h.first
-
--- a load above 1 has an arc
-pub loaded_arc : (T : Table) (f : ℕ → ℕ) → Loads T f → (k : ℕ) → 1 < f k → T.arc k ≡ true
-loaded_arc T f L k l = ⊎_elim (λ a. a) (λ a. absurd (omega (arith, L.vacant k a))) (cases_Bool (T.arc k))
 
 -- all leads settled
 pub settled_best : (T : Table) → Sound T → (f : ℕ → ℕ) (n : ℕ) → n ≡ T.places → SettledTo T f n → Best T f

@@ -1,11 +1,8 @@
 -- Loads that are settled step by step.
-use Rattle.std.proofs.Common.{refl, ◌∙◌, subst}
+use Rattle.std.proofs.Common.{◌∙◌, subst}
 use Rattle.marks.specs.declared.arcs.Arcs.{Arcs}
 use Rattle.loads.specs.declared.best.Settling.{Settling}
 use Rattle.loads.specs.Kept.{Kept}
-
-pub kept_none : (a : Settling) → Kept a a
-kept_none a = record { arcs = refl; nodes = refl; loads = refl }
 
 pub kept_then : (a b d : Settling) → Kept a b → Kept b d → Kept a d
 kept_then a b d K L = record { arcs = L.arcs ∙ K.arcs; nodes = L.nodes ∙ K.nodes; loads = L.loads ∙ K.loads }

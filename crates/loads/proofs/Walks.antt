@@ -2,7 +2,7 @@
 use Rattle.std.proofs.Common.{get_or, is_some, Some, ◌≡◌, ℕ, zero, suc, ◌+◌, ◌-◌, ◌*◌, ◌<◌, ◌≤◌, min, Bool, true, false, cond, not, ◌&&◌, eqb, List, [], ◌∷◌, ◌++◌, sym, refl, ap, ◌∙◌, subst, ⊎_elim, append_assoc, arith}
 use Rattle.std.specs.List.{AllByRecursion}
 use Rattle.std.proofs.lemmas.List.{append-nil}
-use Rattle.std.proofs.lemmas.Bool.{cases_eq, eq-eqb, ne_eqb, both_ways}
+use Rattle.std.proofs.lemmas.Bool.{both_ways, cases_eq, eq-eqb, ne_eqb}
 use Rattle.flow.specs.Table.{Table}
 use Rattle.flow.specs.Ways.{Step, Way, step_from, Once, Shifted, along_count, against_count}
 use Rattle.flow.specs.Trails.{Came, Found, slack_of}
@@ -16,9 +16,9 @@ use Rattle.loads.specs.Search.{TrailOf, Sought, Stepped, stepped_in, stepped_of}
 use Rattle.loads.specs.Walk.{LeadsBack, steps_back, turned, way_to}
 
 -- what a search leaves leads back from every node but its start
-pub leads_back : (T : Table) (f : ℕ → ℕ) (low u : ℕ) (ns : List Mark) → TrailOf T f low u ns → Stepped u ns → LeadsBack T ns
-leads_back T f low u ns t st v r e =
-    let c = t.came v r (λ q. both_ways (stepped_of ns v) (st v r ∙ ap not (eq-eqb v u q)) e) in
+pub leads_back : (T : Table) (f : ℕ → ℕ) (low u to : ℕ) (ns : List Mark) → Sought T f low u to ns true → LeadsBack T ns
+leads_back T f low u to ns s v r e =
+    let c = s.trail.came v r (λ q. both_ways (stepped_of ns v) (s.stepped v r ∙ ap not (eq-eqb v u q)) e) in
     (c.arc, c.from, c.deeper)
 
 module _ (T : Table) (ns : List Mark) where

@@ -123,6 +123,7 @@ impl Spread<'_> {
         ensures target { reached_of self.new.nodes.now to ≡ result }
         ensures shut { result ≡ false → Shut (shown self.old.arcs) (load_of self.old.loads.now) self.old.low (reached_of self.new.nodes.now) }
     {
+        // counted by hand, since the queue grows as it is worked off
         let mut done = 0;
         while done < self.count {
             let mark = self.nodes[to];

@@ -1,7 +1,6 @@
 use Rattle.std.proofs.Common.{rules, arith}
 use Rattle.marks.specs.Marks.{load_of}
 use Rattle.marks.specs.Shown.{shown}
-use Rattle.marks.specs.Links.{Linked}
 use Rattle.loads.specs.Search.{Sought}
 use Rattle.loads.proofs.Searches.{begun_trail, begun_stepped, begun_queued, links_stay}
 use Rattle.loads.proofs.search.search.Goals as goal
@@ -18,8 +17,8 @@ invariant_of-spread c =
       queued = begun_queued (shown a) c.args.from ns begun.reached c.requires.from begun.depth begun.queued;
     }
 
-pub returns : goal.returns
-returns c =
+pub returns-clause-sought : goal.returns-clause-sought
+returns-clause-sought c =
     let a = c.args.arcs in
     let T = shown a in
     let f = load_of c.args.loads.now in
@@ -36,7 +35,5 @@ returns c =
       target = c.run.ensures.target;
       shut = c.run.ensures.shut;
     } in
-    let linked : Linked a.marks.now ms 0 = links_stay a.marks.now ns ms g.long g.out g.into
-    (links_stay a.marks.now c.args.nodes.now ns c.begin_search.auto.nodes begun.out begun.into c.requires.linked) in
     let lent = c.run.ensures.went.lent in
     search rules

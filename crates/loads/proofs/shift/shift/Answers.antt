@@ -1,22 +1,13 @@
-use Rattle.std.proofs.Common.{◌≡◌, true, suc, List, sym, ap, arith}
+use Rattle.std.proofs.Common.{◌≡◌, true, suc, List, arith}
 use Rattle.flow.specs.Ways.{Step, Shifted, Slack}
 use Rattle.flow.proofs.Cuts.{arc_inside}
-use Rattle.flow.proofs.Cells.{shifted_none, shifted_after}
+use Rattle.flow.proofs.Cells.{shifted_after}
 use Rattle.marks.specs.Marks.{load_of, depth_of}
 use Rattle.marks.specs.Shown.{shown}
 use Rattle.marks.proofs.Fields.{shown_sound}
 use Rattle.loads.specs.Way.{flow_step, steps_left}
-use Rattle.loads.proofs.Walks.{back_arcs, walked_none, walked_more, walked_end, back_at, way_at, unchanged}
+use Rattle.loads.proofs.Walks.{back_arcs, walked_more, back_at, way_at, unchanged}
 use Rattle.loads.proofs.shift.shift.Goals as goal
-
-pub loop-step-init : goal.loop-step-init
-loop-step-init c =
-    let f = load_of c.args.loads.now in (
-      tt,
-      tt,
-      walked_none (steps_left c.args.way) (steps_left c.into_iter-step-iterator.result) (λ ss. Shifted c.args.by ss f f)
-          (ap steps_left (sym c.into_iter-step-iterator.ensures.into_iter_gives)) (shifted_none c.args.by f),
-    )
 
 pub change-requires : goal.change-requires
 change-requires c =
@@ -52,8 +43,3 @@ loop-step-preserved c =
       walked_more (steps_left c.args.way) (steps_left c.loop-step.step-iterator) (steps_left c.next.new.self) s (λ ss. Shifted by ss f g)
           c.loop-step.invariant.2 c.in-Some.ensures.steps (λ ss. Shifted by ss f h) (λ ss k. shifted_after by s ss f g h k c.change.ensures),
     )
-
-pub returns : goal.returns
-returns c =
-    walked_end (steps_left c.args.way) (steps_left c.loop-step.step-iterator) (λ ss. Shifted c.args.by ss (load_of c.args.loads.now) (load_of c.loop-step.loads))
-    c.loop-step.invariant.2 c.in-None.ensures.steps.0

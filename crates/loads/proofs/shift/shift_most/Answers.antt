@@ -7,7 +7,7 @@ use Rattle.marks.specs.Marks.{load_of}
 use Rattle.marks.specs.Shown.{shown}
 use Rattle.loads.specs.Steps.{Spare}
 use Rattle.loads.specs.Walk.{way_to}
-use Rattle.loads.proofs.Walks.{most_le, sought_way}
+use Rattle.loads.proofs.Walks.{leads_back, most_le, sought_way}
 use Rattle.loads.proofs.shift.shift_most.Goals as goal
 use Rattle.loads.proofs.shift.shift_most.Goals.{Start}
 
@@ -17,6 +17,11 @@ way : (c : Start) → (w : Found (shown c.args.arcs) (load_of c.args.loads.now) 
 way c =
     let s = c.requires.sought in
     sought_way (shown c.args.arcs) (load_of c.args.loads.now) s.0 s.1 c.args.to c.args.nodes.now s.2
+
+pub invariant_of-way : goal.invariant_of-way
+invariant_of-way c =
+    let s = c.requires.sought in
+    record { reached = s.2.target; back = leads_back (shown c.args.arcs) (load_of c.args.loads.now) s.0 s.1 c.args.to c.args.nodes.now s.2 }
 
 pub slack-by-requires-clause-spare : goal.slack-by-requires-clause-spare
 slack-by-requires-clause-spare c =

@@ -1,4 +1,4 @@
-use Rattle.std.proofs.Common.{◌≡◌, true, suc, ◌-◌, ◌<◌, List, length, min, sym, refl, ap, ◌∙◌, arith}
+use Rattle.std.proofs.Common.{◌≡◌, true, suc, ◌-◌, ◌<◌, List, length, min, sym, ◌∙◌, arith}
 use Rattle.std.proofs.lemmas.Bool.{not-true, not-false}
 use Rattle.flow.specs.Ways.{Step}
 use Rattle.flow.specs.Trails.{slack_of}
@@ -8,18 +8,9 @@ use Rattle.marks.specs.Shown.{shown}
 use Rattle.marks.proofs.Fields.{shown_sound}
 use Rattle.loads.specs.Steps.{Spare}
 use Rattle.loads.specs.Way.{flow_step, steps_left}
-use Rattle.loads.proofs.Walks.{back_arcs, walked_none, walked_more, walked_end, back_at, way_at, slack_along, slack_against}
+use Rattle.loads.proofs.Walks.{back_arcs, walked_more, back_at, way_at, slack_along, slack_against}
 use Rattle.loads.proofs.shift.slack.Goals as goal
 use Rattle.loads.proofs.shift.slack.Goals.{In-Some}
-
-pub loop-step-init : goal.loop-step-init
-loop-step-init c =
-    let f = load_of c.args.loads.now in (
-      tt,
-      tt,
-      walked_none (steps_left c.args.way) (steps_left c.into_iter-step-iterator.result) (λ ss. c.args.most ≡ slack_of f c.args.most ss)
-          (ap steps_left (sym c.into_iter-step-iterator.ensures.into_iter_gives)) refl,
-    )
 
 -- what is known of the step at hand: it is over an arc, and against it there is load to spare
 at_hand : (c : In-Some) → (c.in-Some.step.place < length c.args.loads.now) × Spare (load_of c.args.loads.now) (flow_step c.in-Some.step)
@@ -69,9 +60,3 @@ loop-step-preserved c =
           (λ ss. c.loop-step.least ≡ slack_of f most ss) c.loop-step.invariant.2 c.in-Some.ensures.steps (λ ss. c.loop-step.least ≡ slack_of f most ss)
           (λ ss e. e ∙ sym (slack_along f most s ss (not-false s.along c.if-not-step.false))),
     )
-
-pub returns : goal.returns
-returns c =
-    let f = load_of c.args.loads.now in
-    walked_end (steps_left c.args.way) (steps_left c.loop-step.step-iterator) (λ ss. c.loop-step.least ≡ slack_of f c.args.most ss)
-    c.loop-step.invariant.2 c.in-None.ensures.steps.0

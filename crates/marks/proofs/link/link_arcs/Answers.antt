@@ -1,11 +1,8 @@
 use Rattle.std.proofs.Common.{◌-◌, ◌<◌, length, is_some, sym, ap, ◌∙◌, arith}
 use Rattle.marks.specs.Marks.{begin_in, end_in}
-use Rattle.marks.proofs.Linking.{linked_none, linked_step, kept_none, kept_more}
+use Rattle.marks.proofs.Linking.{linked_step, kept_more}
 use Rattle.marks.proofs.link.link_arcs.Goals as goal
 use Rattle.marks.proofs.link.link_arcs.Goals.{In-Some}
-
-pub loop-k-init : goal.loop-k-init
-loop-k-init c = (kept_none c.args.places.now, linked_none c.args.places.now c.unlink.new.nodes c.unlink.ensures)
 
 -- the ends of the arc at hand are nodes
 ends : (c : In-Some) → (c.in-Some.arc.begin < length c.args.nodes.now) × (c.in-Some.arc.end < length c.args.nodes.now)
@@ -17,10 +14,11 @@ ends c =
     let end = sym (ap (λ h. h j) kept.end) ∙ ap end_in c.in-Some.is in
     (omega arith, omega arith)
 
-pub link_place-requires : goal.link_place-requires
-link_place-requires c =
-    let within = ends (goal.at.link_place-requires c).In-Some in
-    record { place = omega arith; small = omega arith; arc = c.in-Some.is; begin = omega arith; end = omega arith }
+pub link_place-requires-clause-begin : goal.link_place-requires-clause-begin
+link_place-requires-clause-begin c = let within = ends (goal.at.link_place-requires-clause-begin c).In-Some in omega arith
+
+pub link_place-requires-clause-end : goal.link_place-requires-clause-end
+link_place-requires-clause-end c = let within = ends (goal.at.link_place-requires-clause-end c).In-Some in omega arith
 
 pub loop-k-preserved-in-Some : goal.loop-k-preserved-in-Some
 loop-k-preserved-in-Some c =

@@ -2,7 +2,7 @@ use Rattle.std.proofs.Common.{◌<◌, length, arith}
 use Rattle.flow.specs.Table.{entering}
 use Rattle.marks.specs.Marks.{reached_of}
 use Rattle.marks.specs.Shown.{shown}
-use Rattle.loads.proofs.Witness.{filled_room, filled_more, filled_on, filled_all}
+use Rattle.loads.proofs.Witness.{filled_room, filled_more, filled_on}
 use Rattle.loads.proofs.cut.Cut.write_witness.Goals as goal
 use Rattle.loads.proofs.cut.Cut.write_witness.Goals.{then-is_entered_at, else-is_entered_at}
 
@@ -15,14 +15,8 @@ spare c =
     filled_room P c.loop-k.k T.places c.loop-k.count c.args.row.now c.loop-k.row c.loop-k.invariant c.if-is_entered_at.ensures l
     c.requires
 
-pub offset_bounds-row-count : goal.offset_bounds-row-count
-offset_bounds-row-count c = omega (arith, spare c)
-
 pub bounds-row-count : goal.bounds-row-count
 bounds-row-count c = omega (arith, spare c)
-
-pub overflow_add-count : goal.overflow_add-count
-overflow_add-count c = omega (arith, spare c)
 
 pub loop-k-preserved : goal.loop-k-preserved
 loop-k-preserved c =
@@ -42,10 +36,3 @@ loop-k-preserved c =
           filled_more P k count old row inv yes room after new w.count-is w.row-is
       | else-is_entered_at w ↦ filled_on P k count old row inv w.if-is_entered_at.ensures after new w.count-is w.row-is
     ]
-
-pub returns : goal.returns
-returns c =
-    let T = shown c.args.self.now.arcs in
-    let P = entering T (reached_of c.args.self.now.nodes.now) in
-    let all = filled_all P c.loop-k.k T.places c.loop-k.count c.args.row.now c.loop-k.row c.loop-k.invariant (omega arith) in
-    record { row = all.0; count = all.1 }

@@ -8,7 +8,7 @@ use Rattle.marks.proofs.Fields.{shown_sound}
 use Rattle.loads.specs.declared.first.Raising.{Raising as RaisingNow}
 use Rattle.loads.specs.Raise.{RaisedThrough}
 use Rattle.loads.specs.Stays.{Stays}
-use Rattle.loads.proofs.Raises.{load_le, begun_clear, begun_on, begun_through, begun_end}
+use Rattle.loads.proofs.Raises.{load_le, begun_clear, begun_on, begun_through}
 use Rattle.loads.proofs.Rising.{stays_then, over_start}
 use Rattle.loads.proofs.first.Raising.first_loads.Goals as goal
 use Rattle.loads.proofs.first.Raising.first_loads.Goals.{then-is_some+then-self-k-eq0, else-is_some}
@@ -50,13 +50,3 @@ loop-k-preserved c =
           let on = begun_on T f k inv.1 inv.2 some in
           subst On (sym w.self-is) (inv.0, on.0, on.1)
     ]
-
-pub returns : goal.returns
-returns c =
-    let a = c.args.self.now in
-    let inv = c.loop-k.invariant in
-    record {
-      stays = inv.0;
-      loads = begun_end (shown a.arcs) (shown_sound a.arcs) (load_of c.loop-k.self.loads.now) c.loop-k.k (omega arith) inv.1;
-      few = omega (arith, inv.2);
-    }

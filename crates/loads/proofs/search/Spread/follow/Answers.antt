@@ -1,5 +1,5 @@
-use Rattle.std.proofs.Common.{◌≡◌, ℕ, true, sym, refl, ap, ◌∙◌, subst}
-use Rattle.std.proofs.lemmas.List.Elements.{All-nil, All-push, All-same}
+use Rattle.std.proofs.Common.{◌≡◌, ℕ, true, sym, subst}
+use Rattle.std.proofs.lemmas.List.Elements.{All-push, All-same}
 use Rattle.flow.specs.Ways.{step_from}
 use Rattle.marks.specs.declared.arcs.Arcs.{Arcs}
 use Rattle.marks.specs.Follow.{near_at, arcs_of}
@@ -8,28 +8,12 @@ use Rattle.marks.specs.Links.{arc_at}
 use Rattle.marks.specs.Marks.{load_of, reached_of}
 use Rattle.marks.specs.Shown.{shown}
 use Rattle.marks.proofs.Following.{arcs_each, arcs_all, passed_more, passed_all, passing}
-use Rattle.marks.proofs.Fields.{reached_inside}
 use Rattle.loads.specs.Search.{Grown}
 use Rattle.loads.specs.Steps.{over}
 use Rattle.loads.proofs.Going.{moved, went_then}
-use Rattle.loads.proofs.Searches.{Made, made_kept, grown_none}
+use Rattle.loads.proofs.Searches.{Made, made_kept}
 use Rattle.loads.proofs.search.Spread.follow.Goals as goal
 use Rattle.loads.proofs.search.Spread.follow.Goals.{In-Some}
-
-pub of_node-place-items-requires : goal.of_node-place-items-requires
-of_node-place-items-requires c = record { linked = c.args.self.now.linked; node = reached_inside c.args.self.now.nodes.now c.args.v c.requires }
-
-pub loop-place-init : goal.loop-place-init
-loop-place-init c =
-    let a = c.args.self.now in
-    let T = shown a.arcs in
-    let f = load_of a.loads.now in (
-      tt,
-      tt,
-      record { arcs = refl; loads = refl; low = refl; lent = refl; grown = grown_none T f a.low a.nodes.now a.count a.queued },
-      sym c.of_node-place-items.ensures ∙ ap left (sym c.into_iter-place-iterator.ensures.into_iter_gives),
-      All-nil (Made T f a.low a.nodes.now c.args.along),
-    )
 
 -- the arc at hand is one of v
 at_hand : (c : In-Some) → (arc_at c.args.self.now.arcs.marks.now c.in-Some.place ≡ true)
@@ -76,8 +60,8 @@ loop-place-preserved c =
       All-push (Made T f a.low d.nodes.now along) ks k (made_kept T f a.low b.nodes.now d.nodes.now along kept.kept ks inv.4) here,
     )
 
-pub returns : goal.returns
-returns c =
+pub returns-clause-followed : goal.returns-clause-followed
+returns-clause-followed c =
     let a = c.args.self.now in
     let along = c.args.along in
     let v = c.args.v in
@@ -86,7 +70,4 @@ returns c =
     let inv = c.loop-place.invariant in
     let passed = passed_all (arcs_of ps along v) c.loop-place.yielded (left c.loop-place.place-iterator) inv.3 c.in-None.ensures.steps.0 in
     let all = All-same Q (arcs_of ps along v) c.loop-place.yielded (sym passed) inv.4 in
-    record {
-      went = inv.2;
-      followed = λ k l _ x y e. arcs_all ps along v Q all k x y l e;
-    }
+    λ k l _ x y e. arcs_all ps along v Q all k x y l e

@@ -1,4 +1,4 @@
-use Rattle.std.proofs.Common.{sym, arith}
+use Rattle.std.proofs.Common.{arith}
 use Rattle.marks.specs.Marks.{load_of}
 use Rattle.marks.specs.Shown.{shown}
 use Rattle.marks.proofs.Fields.{shown_sound}
@@ -23,14 +23,9 @@ loop-done-preserved c =
       omega (arith, kept.more),
     )
 
-pub returns : goal.returns
-returns c =
+pub returns-clause-shut : goal.returns-clause-shut
+returns-clause-shut c = λ _.
     let a = c.args.self.now in
     let b = c.loop-done.self in
     let inv = c.loop-done.invariant in
-    record {
-      went = inv.0;
-      target = sym c.is_some-2.ensures;
-      shut = λ e. finished_shut (shown a.arcs) (load_of a.loads.now) a.low (shown_sound a.arcs) b.nodes.now b.count inv.0.grown.queued
-          (λ i l. inv.1 i (omega arith));
-    }
+    finished_shut (shown a.arcs) (load_of a.loads.now) a.low (shown_sound a.arcs) b.nodes.now b.count inv.0.grown.queued (λ i l. inv.1 i (omega arith))

@@ -1,4 +1,4 @@
-use Rattle.std.proofs.Common.{◌≡◌, ℕ, ◌+◌, true, false, sym, refl, ◌∙◌, subst, arith}
+use Rattle.std.proofs.Common.{◌≡◌, ℕ, ◌+◌, false, sym, refl, ◌∙◌, subst, arith}
 use Rattle.flow.specs.Ways.{step_from, step_to}
 use Rattle.flow.specs.Trails.{Opens}
 use Rattle.marks.specs.Marks.{load_of, reached_of}
@@ -11,23 +11,14 @@ use Rattle.loads.proofs.Searches.{queue_room, grown_step, step_new, links_stay}
 use Rattle.loads.proofs.search.Spread.step_over.Goals as goal
 use Rattle.loads.proofs.search.Spread.step_over.Goals.{After-reach}
 
-pub reach-requires : goal.reach-requires
-reach-requires c =
+pub reach-requires-clause-queue : goal.reach-requires-clause-queue
+reach-requires-clause-queue c =
     let a = c.args.self.now in
     let T = shown a.arcs in
-    let ns = a.nodes.now in
-    let u = c.step_ends-u.result.0 in
     let v = c.step_ends-u.result.1 in
     let inside = step_inside T (shown_sound a.arcs) (over c.args.step.place c.args.step.along) c.requires.arc in
-    let none : reached_of ns v ≡ false = sym c.is_some.ensures ∙ c.if-is_some.false in
-    let from = subst (λ (w : ℕ). reached_of ns w ≡ true) (sym c.step_ends-u.ensures.from) c.requires.from in
-    record {
-      from = from;
-      to = omega (arith, inside.1, a.sized);
-      queue = omega (arith, queue_room T ns a.count v a.queued (omega (arith, inside.1)) none, a.sized);
-      small = omega (arith, a.sized);
-      depth = omega (arith, a.queued.shallow u from);
-    }
+    let none : reached_of a.nodes.now v ≡ false = sym c.is_some.ensures ∙ c.if-is_some.false in
+    omega (arith, queue_room T a.nodes.now a.count v a.queued (omega (arith, inside.1)) none, a.sized)
 
 -- the step leads out of what was reached, to its end
 opens : (c : After-reach) → Opens (shown c.args.self.now.arcs) (load_of c.args.self.now.loads.now) c.args.self.now.low (reached_of c.args.self.now.nodes.now)
