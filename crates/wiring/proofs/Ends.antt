@@ -1,7 +1,8 @@
 -- Which leads enter and leave a node, and what inputs, outputs and bare nodes are.
-use Rattle.std.proofs.Common.{◌≡◌, ℕ, ◌<◌, ◌≤◌, Bool, true, false, not, Some, None, Decides, Option, refl, ap, ◌∙◌, ⊎_elim, arith}
+use Rattle.std.proofs.Common.{◌≡◌, ℕ, ◌<◌, ◌≤◌, Bool, true, false, not, Some, None, Decides, Option, sym, refl, ap, ◌∙◌, ⊎_elim, arith}
 use Rattle.std.proofs.lemmas.Bool.{cases_lt, both_ways, and_parts, and_from, not-true, not_from_false, eqb-true, eq-eqb}
 use Rattle.std.proofs.lemmas.Bool.Decides.{Decides-below_or, Decides-below_and}
+use Rattle.std.proofs.lemmas.Option.{none-some}
 use Rattle.wiring.specs.declared.Lead.{Lead}
 use Rattle.delay.specs.Kind.{Kind}
 use Rattle.wiring.specs.Net.{Net, Holds, Sound, tail_is, head_is, leaves, enters, some_below, all_below, has_lead_in, has_lead_out, is_input, is_output, is_inner, is_bare}
@@ -43,9 +44,7 @@ one_lead N k p q = cc
 
 module _ {D : Type 0} (N : Net D) where
   pub below_places : (k : ℕ) (l : Lead D) → Holds N k l → k < N.places
-  below_places k l h = ⊎_elim (λ p. p)
-      (λ p. let e : N.at k ≡ None = N.vacant k p in let z : ◌≡◌ {A = ℕ} 0 1 = cc in absurd (omega arith))
-      (cases_lt k N.places)
+  below_places k l h = ⊎_elim (λ p. p) (λ p. absurd (none-some l (sym (N.vacant k p) ∙ h))) (cases_lt k N.places)
 
   pub lead_in : (v : ℕ) → has_lead_in N v ≡ true → LeadIn N v
   lead_in v e =

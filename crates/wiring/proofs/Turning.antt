@@ -2,6 +2,8 @@
 use Rattle.std.proofs.Common.{◌≡◌, ℕ, ◌<◌, Bool, true, false, not, ◌&&◌, eqb, ltb, List, [], ◌∷◌, reverse, Some, None, Option, sym, refl, ap, ◌∙◌, subst, inl, inr, arith}
 use mathlib.Core.Path.{fun_ext}
 use mathlib.Core.List.{reverse-cons, reverse-reverse}
+use Rattle.std.proofs.Math.Bool.{and_comm}
+use Rattle.std.proofs.lemmas.Option.{none-some}
 use Rattle.std.proofs.lemmas.Bool.{and_from, lt-ltb, cond-true}
 use Rattle.std.proofs.lemmas.Bool.Decides.{nat_tests}
 use Rattle.delay.specs.Kind.{Kind, Laws, Le}
@@ -53,9 +55,7 @@ module _ {D : Type 0} {N : Net D} (O : InOrder N) where
           let q : Some (turn N.nodes l) ≡ Some m = sym (ap (turn_place N.nodes) e) ∙ h in
           let r : turn N.nodes l ≡ m = cc in
           record { lead = l; holds = e; is = sym r ∙ p }
-      go None e =
-          let q : None ≡ Some m = sym (ap (turn_place N.nodes) e) ∙ h in
-          let z : ◌≡◌ {A = ℕ} 0 1 = cc in absurd (omega arith)
+      go None e = absurd (none-some m (sym (ap (turn_place N.nodes) e) ∙ h))
 
   pub turned_in_order : InOrder (turned_net N)
   turned_in_order = record {
@@ -160,13 +160,7 @@ module _ {D : Type 0} {K : Kind D} (L : Laws K) {N : Net D} (S : Sound K N) wher
   bare_turned : (v : ℕ) → v < N.nodes → is_bare (turned_net N) (mirror N.nodes v) ≡ is_bare N v
   bare_turned v i = let O = in_order S in
       ap (λ b. not b && not (has_lead_out (turned_net N) (mirror N.nodes v))) (in_turned O v i) ∙ ap (λ b. not (has_lead_out N v) && not b) (out_turned O v i)
-      ∙ and_swaps (not (has_lead_out N v)) (not (has_lead_in N v))
-    where
-      and_swaps : (a b : Bool) → (a && b) ≡ (b && a)
-      and_swaps true true = refl
-      and_swaps true false = refl
-      and_swaps false true = refl
-      and_swaps false false = refl
+      ∙ and_comm (not (has_lead_out N v)) (not (has_lead_in N v))
 
   -- a longest run to the view's node, turned round, is a longest run from the node
   pub from_turned : (v : ℕ) (x : D) → v < N.nodes → To K (turned_net N) (mirror N.nodes v) x → From K N v x

@@ -1,5 +1,5 @@
 -- The two marks of a lead, told from the length tables.
-use Rattle.std.proofs.Common.{◌≡◌, ℕ, Bool, true, false, not, Some, None, Decides, Option, sym, refl, ap, ◌∙◌, subst, ⊎_elim, arith}
+use Rattle.std.proofs.Common.{◌≡◌, ℕ, Bool, true, false, not, Some, None, Decides, Option, sym, refl, ap, ◌∙◌, subst, ap₂, ⊎_elim, arith}
 use mathlib.Core.Path.{fun_ext}
 use Rattle.std.proofs.lemmas.Bool.{cases_Bool, both_ways, and_parts, and_from, not-true, not_from_false}
 use Rattle.std.proofs.lemmas.Bool.Decides.{same_from_decides, Decides-like}
@@ -19,9 +19,6 @@ level_decides {K = K} L {x} {y} a b = (
   λ e. let p = and_parts (not (K.below x y)) (not (K.below y x)) e in L.equal_if_neither a b (not-true (K.below x y) p.0) (not-true (K.below y x) p.1),
   λ e. and_from (not (K.below x y)) (not (K.below y x)) (not_from_false (K.below x y) (le_eq L b (sym e))) (not_from_false (K.below y x) (le_eq L a e)),
 )
-
-pair_same : {p q : Bool × Bool} → p.0 ≡ q.0 → p.1 ≡ q.1 → p ≡ q
-pair_same a b = λ i. (a i, b i)
 
 pub lead_at : {D : Type 0} (N : Net D) (k : ℕ) → is_lead N k ≡ true → (l : Lead D) × Holds N k l
 lead_at {D} N k e = go (N.at k) refl e
@@ -61,6 +58,6 @@ module _ {D : Type 0} {K : Kind D} (L : Laws K) {N : Net D} (S : Sound K N) {to 
 -- a wiring has one table of types only
 pub types_same : {D : Type 0} {K : Kind D} {N : Net D} {m n : Marks} → Types K N m → Types K N n → m ≡ n
 types_same {N = N} {m = m} {n = n} A B = fun_ext (λ k. ⊎_elim
-    (λ e. pair_same (same_from_decides (m k).0 (n k).0 (A.drains k e) (B.drains k e)) (same_from_decides (m k).1 (n k).1 (A.fed k e) (B.fed k e)))
+    (λ e. ap₂ (λ (a b : Bool). (a, b)) (same_from_decides (m k).0 (n k).0 (A.drains k e) (B.drains k e)) (same_from_decides (m k).1 (n k).1 (A.fed k e) (B.fed k e)))
     (λ e. A.vacant k e ∙ sym (B.vacant k e))
     (cases_Bool (is_lead N k)))
