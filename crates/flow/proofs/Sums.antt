@@ -1,6 +1,6 @@
 -- Laws of sums over the numbers below a bound.
 use Rattle.std.proofs.Common.{◌≡◌, ℕ, zero, suc, ◌+◌, ◌*◌, ◌<◌, ◌≤◌, Bool, true, false, cond, ◌&&◌, eqb, sym, refl, ap, ◌∙◌, ⊎_elim, arith}
-use Rattle.std.proofs.lemmas.Bool.{cases_order, eq-eqb, ne_eqb}
+use Rattle.std.proofs.lemmas.Bool.{cases_order, eq-eqb, ne_eqb, cond_both}
 use Rattle.wiring.specs.Loads.{sum_below, sum_where}
 
 pub sum_cong : (n : ℕ) (f g : ℕ → ℕ) → ((k : ℕ) → k < n → f k ≡ g k) → sum_below n f ≡ sum_below n g
@@ -67,6 +67,11 @@ sum_one (suc n) c f l h = ⊎_elim here (⊎_elim (before (λ m. sum_one n c f m
     after : n < c → sum_below (suc n) f ≡ f c
     after m = omega arith
 
+-- a test under a test
+cond_and : (p q : Bool) (x : ℕ) → cond p (cond q x 0) 0 ≡ cond (p && q) x 0
+cond_and true q x = refl
+cond_and false q x = refl
+
 -- one term at c alone
 pub sum_point : (n c : ℕ) (P : ℕ → Bool) (x : ℕ) → c < n → sum_below n (λ v. cond (P v && eqb c v) x 0) ≡ cond (P c) x 0
 sum_point n c P x l = sum_one n c (λ v. cond (P v && eqb c v) x 0) l elsewhere ∙ here (P c) (eqb c c) (eq-eqb c c refl)
@@ -94,11 +99,7 @@ pub where_none : (n : ℕ) (P : ℕ → Bool) (f : ℕ → ℕ) → ((k : ℕ) �
 where_none n P f h = sum_none n (λ k. cond (P k) (f k) 0) (λ k l. ap (λ (z : Bool). cond z (f k) 0) (h k l))
 
 pub where_zero : (n : ℕ) (P : ℕ → Bool) → sum_where n P (λ k. 0) ≡ 0
-where_zero n P = sum_none n (λ k. cond (P k) 0 0) (λ k l. at (P k))
-  where
-    at : (b : Bool) → ◌≡◌ {A = ℕ} (cond b 0 0) 0
-    at true = refl
-    at false = refl
+where_zero n P = sum_none n (λ k. cond (P k) 0 0) (λ k l. cond_both (P k) 0 0 (λ x. x ≡ 0) (λ e. refl) (λ e. refl))
 
 pub where_same : (n : ℕ) (P Q : ℕ → Bool) (f : ℕ → ℕ) → ((k : ℕ) → k < n → P k ≡ Q k) → sum_where n P f ≡ sum_where n Q f
 where_same n P Q f h = sum_cong n (λ k. cond (P k) (f k) 0) (λ k. cond (Q k) (f k) 0) (λ k l. ap (λ (z : Bool). cond z (f k) 0) (h k l))
@@ -140,19 +141,11 @@ sum_gather n m P e R f h =
     ∙ sum_cong m (λ k. sum_below n (λ v. cond (R v) (cond (P k && eqb (e k) v) (f k) 0) 0)) (λ k. cond (P k && R (e k)) (f k) 0)
     (λ k l. column k (P k) refl))
   where
-    turn : (r q : Bool) (x : ℕ) → cond r (cond q x 0) 0 ≡ cond (r && q) x 0
-    turn true q x = refl
-    turn false q x = refl
-
     column : (k : ℕ) (p : Bool) → P k ≡ p → sum_below n (λ v. cond (R v) (cond (p && eqb (e k) v) (f k) 0) 0) ≡ cond (p && R (e k)) (f k) 0
     column k true q =
-        sum_cong n (λ v. cond (R v) (cond (eqb (e k) v) (f k) 0) 0) (λ v. cond (R v && eqb (e k) v) (f k) 0) (λ v l. turn (R v) (eqb (e k) v) (f k))
+        sum_cong n (λ v. cond (R v) (cond (eqb (e k) v) (f k) 0) 0) (λ v. cond (R v && eqb (e k) v) (f k) 0) (λ v l. cond_and (R v) (eqb (e k) v) (f k))
         ∙ sum_point n (e k) R (f k) (h k q)
-    column k false q = sum_none n (λ v. cond (R v) 0 0) (λ v l. zeros (R v))
-      where
-        zeros : (r : Bool) → ◌≡◌ {A = ℕ} (cond r 0 0) 0
-        zeros true = refl
-        zeros false = refl
+    column k false q = where_zero n R
 
 -- a term is at most the sum
 pub sum_term : (n c : ℕ) (f : ℕ → ℕ) → c < n → f c ≤ sum_below n f
@@ -188,11 +181,7 @@ sum_some (suc n) f h = ⊎_elim (λ (e : 0 ≡ f n). earlier (sum_some n f (omeg
 -- one unit at one place, if b holds
 pub where_unit : (n : ℕ) (P : ℕ → Bool) (b : Bool) (j : ℕ) → j < n → sum_where n P (λ k. cond (b && eqb j k) 1 0) ≡ cond (b && P j) 1 0
 where_unit n P true j l =
-    sum_cong n (λ k. cond (P k) (cond (eqb j k) 1 0) 0) (λ k. cond (P k && eqb j k) 1 0) (λ k m. at (P k) (eqb j k)) ∙ sum_point n j P 1 l
-  where
-    at : (p q : Bool) → ◌≡◌ {A = ℕ} (cond p (cond q 1 0) 0) (cond (p && q) 1 0)
-    at true q = refl
-    at false q = refl
+    sum_cong n (λ k. cond (P k) (cond (eqb j k) 1 0) 0) (λ k. cond (P k && eqb j k) 1 0) (λ k m. cond_and (P k) (eqb j k) 1) ∙ sum_point n j P 1 l
 where_unit n P false j l = where_zero n P
 
 -- a term at which the test holds is at most the sum

@@ -19,7 +19,7 @@ pub in_order : {D : Type 0} {K : Kind D} {N : Net D} → Sound K N → InOrder N
 in_order S = record { upwards = S.upwards; inside = S.inside }
 
 -- a run asks only which leads stand where
-run_same : {D : Type 0} {M N : Net D} → ((k : ℕ) → M.at k ≡ N.at k) → {u v : ℕ} {ks : List ℕ} → Run M u v ks → Run N u v ks
+pub run_same : {D : Type 0} {M N : Net D} → ((k : ℕ) → M.at k ≡ N.at k) → {u v : ℕ} {ks : List ℕ} → Run M u v ks → Run N u v ks
 run_same e (stay p) = stay p
 run_same e (along {k = k} l h t r) = along l (sym (e k) ∙ h) t (run_same e r)
 
