@@ -1,6 +1,7 @@
 -- Numbers 2v and 2v+1 for the two edges, and which leads of the circuit stand behind those of the spread.
 use Rattle.std.proofs.Common.{◌≡◌, ℕ, ◌+◌, ◌*◌, ◌%◌, ◌≤◌, Bool, true, false, cond, eqb, Some, None, Option, sym, refl, ap, ◌∙◌, ⊎_elim, arith}
 use Rattle.std.proofs.lemmas.Bool.{cases_Bool, cond-true, cond-false, eq-eqb, ne_eqb, eqb-true, eqb-false}
+use Rattle.std.proofs.lemmas.Option.{none-some}
 use Rattle.wiring.specs.declared.Lead.{Lead}
 use Rattle.delay.specs.Kind.{Kind}
 use Rattle.wiring.specs.Net.{Net, Holds}
@@ -57,6 +58,4 @@ module _ (sign : ℕ → ℕ) {D : Type 0} (K : Kind D) (C : Net Times) where
       go (Some l) e =
           let q : Some (spread_lead sign K (edge_of j) l) ≡ Some m = sym (ap (spread_place sign K (edge_of j)) e) ∙ h in
           record { lead = l; holds = e; is = cc }
-      go None e =
-          let q : None ≡ Some m = sym (ap (spread_place sign K (edge_of j)) e) ∙ h in
-          let z : ◌≡◌ {A = ℕ} 0 1 = cc in absurd (omega arith)
+      go None e = absurd (none-some m (sym (ap (spread_place sign K (edge_of j)) e) ∙ h))

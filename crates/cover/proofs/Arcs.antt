@@ -1,5 +1,6 @@
 -- The table of arcs of a wiring: it is sound and joined, and its loads are the wiring's.
 use Rattle.std.proofs.Common.{◌≡◌, ℕ, ◌<◌, ◌≤◌, Bool, true, false, cond, not, ◌&&◌, ◌||◌, eqb, ◌⊎◌, Some, None, Option, sym, refl, ap, ◌∙◌, subst, inl, inr, ⊎_elim, arith}
+use Rattle.std.proofs.Math.Bool.{and-true}
 use Rattle.std.proofs.lemmas.Bool.{cases_Bool, cases_eq, both_ways, and_from, eq-eqb, ne_eqb}
 use Rattle.delay.specs.Kind.{Kind, Laws}
 use Rattle.wiring.specs.declared.Lead.{Lead}
@@ -50,11 +51,7 @@ lies_tells {place = place} {node = node} {mark = mark} {other = other} v (inl p)
     (λ e. ap (λ b. b && mark) (ne_eqb node v e))
     (cases_eq node v))
 lies_tells {place = place} {node = node} {mark = mark} v (inr p) n o =
-    ap (λ x. eqb x v) p.1 ∙ sym (ap (λ b. eqb node v && b) p.2 ∙ alone (eqb node v))
-  where
-    alone : (b : Bool) → (b && true) ≡ b
-    alone true = refl
-    alone false = refl
+    ap (λ x. eqb x v) p.1 ∙ sym (ap (λ b. eqb node v && b) p.2 ∙ and-true (eqb node v))
 
 -- where no node with leads on the other side is the pole, the end lies there just where it is outer
 lies_outer : {outer : Bool} {place pole node : ℕ} {mark other : Bool} → Lies outer place pole node mark other → (other ≡ true → node ≡ pole → ⊥) →
