@@ -1,22 +1,11 @@
 -- Laws of sums over the numbers below a bound.
-use Rattle.std.proofs.Common.{◌≡◌, ℕ, zero, suc, ◌+◌, ◌*◌, ◌<◌, ◌≤◌, Bool, true, false, cond, ◌&&◌, eqb, sym, refl, ap, ◌∙◌, ⊎_elim, arith}
+use Rattle.std.proofs.Common.{◌≡◌, ℕ, zero, suc, ◌+◌, ◌-◌, ◌*◌, ◌<◌, ◌≤◌, Bool, true, false, cond, ◌&&◌, eqb, sym, refl, ap, ◌∙◌, ⊎_elim, arith}
 use Rattle.std.proofs.lemmas.Bool.{cases_order, eq-eqb, ne_eqb, cond_both}
 use Rattle.wiring.specs.Loads.{sum_below, sum_where}
 
-pub sum_cong : (n : ℕ) (f g : ℕ → ℕ) → ((k : ℕ) → k < n → f k ≡ g k) → sum_below n f ≡ sum_below n g
-sum_cong zero f g h = refl
-sum_cong (suc n) f g h =
-    let below = sum_cong n f g (λ k l. h k (omega arith)) in
-    let here = h n (omega arith) in
-    omega arith
-
-pub sum_add : (n : ℕ) (f g : ℕ → ℕ) → sum_below n (λ k. f k + g k) ≡ sum_below n f + sum_below n g
-sum_add zero f g = refl
-sum_add (suc n) f g = let below = sum_add n f g in omega arith
-
-sum_times : (n c : ℕ) (f : ℕ → ℕ) → sum_below n (λ k. c * f k) ≡ c * sum_below n f
-sum_times zero c f = omega arith
-sum_times (suc n) c f = let below = sum_times n c f in omega arith
+sum_zero : (n : ℕ) → sum_below n (λ k. 0) ≡ 0
+sum_zero zero = refl
+sum_zero (suc n) = omega (arith, sum_zero n)
 
 -- an equation between two and two terms at each number holds of the sums
 pub sum_level : (n : ℕ) (a b c d : ℕ → ℕ) → ((k : ℕ) → k < n → a k + b k ≡ c k + d k) → sum_below n a + sum_below n b ≡ sum_below n c + sum_below n d
@@ -26,22 +15,28 @@ sum_level (suc n) a b c d h =
     let here = h n (omega arith) in
     omega arith
 
+pub sum_cong : (n : ℕ) (f g : ℕ → ℕ) → ((k : ℕ) → k < n → f k ≡ g k) → sum_below n f ≡ sum_below n g
+sum_cong n f g h = omega (arith, sum_level n f (λ k. 0) g (λ k. 0) (λ k l. omega (arith, h k l)))
+
+pub sum_add : (n : ℕ) (f g : ℕ → ℕ) → sum_below n (λ k. f k + g k) ≡ sum_below n f + sum_below n g
+sum_add n f g = omega (arith, sum_level n (λ k. f k + g k) (λ k. 0) f g (λ k l. omega arith), sum_zero n)
+
+sum_times : (n c : ℕ) (f : ℕ → ℕ) → sum_below n (λ k. c * f k) ≡ c * sum_below n f
+sum_times zero c f = omega arith
+sum_times (suc n) c f = let below = sum_times n c f in omega arith
+
+-- with at least as much at each number, the rest makes up the sum
+sum_rest : (n : ℕ) (f g : ℕ → ℕ) → ((k : ℕ) → k < n → f k ≤ g k) → sum_below n g ≡ sum_below n f + sum_below n (λ k. g k - f k)
+sum_rest n f g h = omega (arith, sum_level n g (λ k. 0) f (λ k. g k - f k) (λ k l. omega (arith, h k l)), sum_zero n)
+
 pub sum_le : (n : ℕ) (f g : ℕ → ℕ) → ((k : ℕ) → k < n → f k ≤ g k) → sum_below n f ≤ sum_below n g
-sum_le zero f g h = omega arith
-sum_le (suc n) f g h =
-    let below = sum_le n f g (λ k l. h k (omega arith)) in
-    let here = h n (omega arith) in
-    omega arith
+sum_le n f g h = omega (arith, sum_rest n f g h)
 
 pub sum_none : (n : ℕ) (f : ℕ → ℕ) → ((k : ℕ) → k < n → f k ≡ 0) → sum_below n f ≡ 0
-sum_none zero f h = refl
-sum_none (suc n) f h =
-    let below = sum_none n f (λ k l. h k (omega arith)) in
-    let here = h n (omega arith) in
-    omega arith
+sum_none n f h = sum_cong n f (λ k. 0) h ∙ sum_zero n
 
 sum_exchange : (m n : ℕ) (h : ℕ → ℕ → ℕ) → sum_below m (λ i. sum_below n (λ j. h i j)) ≡ sum_below n (λ j. sum_below m (λ i. h i j))
-sum_exchange zero n h = sym (sum_none n (λ j. 0) (λ k l. refl))
+sum_exchange zero n h = sym (sum_zero n)
 sum_exchange (suc m) n h =
     let below = sum_exchange m n h in
     let joined = sum_add n (λ j. sum_below m (λ i. h i j)) (h m) in
@@ -129,7 +124,7 @@ where_times n P c f =
 -- a test outside a sum goes in
 sum_under : (n : ℕ) (b : Bool) (f : ℕ → ℕ) → cond b (sum_below n f) 0 ≡ sum_below n (λ k. cond b (f k) 0)
 sum_under n true f = refl
-sum_under n false f = sym (sum_none n (λ k. 0) (λ k l. refl))
+sum_under n false f = sym (sum_zero n)
 
 -- the sum over nodes of R, each with the terms whose node it is, is the sum over terms whose node is in R
 pub sum_gather : (n m : ℕ) (P : ℕ → Bool) (e : ℕ → ℕ) (R : ℕ → Bool) (f : ℕ → ℕ) → ((k : ℕ) → P k ≡ true → e k < n) →
@@ -157,17 +152,7 @@ sum_term (suc n) c f l = ⊎_elim (λ e. here e) (⊎_elim (λ m. let rest = sum
 
 -- nowhere more and at one number less: the sum is less
 pub sum_lt : (n c : ℕ) (f g : ℕ → ℕ) → c < n → ((k : ℕ) → k < n → f k ≤ g k) → f c < g c → sum_below n f < sum_below n g
-sum_lt zero c f g l h s = omega arith
-sum_lt (suc n) c f g l h s =
-    ⊎_elim (λ e. here e) (⊎_elim (λ m. let rest = sum_lt n c f g m (λ k p. h k (omega arith)) s in let last = h n (omega arith) in omega arith)
-    (λ m. omega arith)) (cases_order c n)
-  where
-    here : c ≡ n → sum_below (suc n) f < sum_below (suc n) g
-    here e =
-        let rest = sum_le n f g (λ k p. h k (omega arith)) in
-        let one = ap f e in
-        let two = ap g e in
-        omega arith
+sum_lt n c f g l h s = omega (arith, sum_rest n f g h, sum_term n c (λ k. g k - f k) l)
 
 -- a sum that is not zero has a term that is not
 sum_some : (n : ℕ) (f : ℕ → ℕ) → 1 ≤ sum_below n f → (k : ℕ) × (k < n) × (1 ≤ f k)

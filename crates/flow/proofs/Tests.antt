@@ -18,7 +18,7 @@ past_nodes T S f v l =
 loads_by_test : (T : Table) → Sound T → (f : ℕ → ℕ) → ((k : ℕ) → T.places ≤ k → f k ≡ 0) → loads_test T f ≡ true → Loads T f
 loads_by_test T S f past h =
     record {
-      arcs = λ k a. ⊎_elim (λ l. some k a (at k l)) (λ l. absurd (both_ways (T.arc k) (S.past k l) a)) (cases_lt k T.places);
+      arcs = λ k a. some k a (at k (arc_inside T S k a));
       vacant = λ k a. ⊎_elim (λ l. none k a (at k l)) (λ l. past k l) (cases_lt k T.places);
       balanced = λ v a b. ⊎_elim (λ l. level v a b l) (λ l. past_nodes T S f v l) (cases_lt v T.nodes);
     }

@@ -8,7 +8,7 @@ use Rattle.delay.specs.Kind.{Kind, both, Within, Laws, level}
 use Rattle.wiring.specs.Net.{Net, Holds, Sound, stands, is_lead}
 use Rattle.wiring.specs.Lengths.{Fed, Drains, Marks, Types, marks_in, marks_of}
 use Rattle.delay.proofs.Sums.{weaken, le_eq}
-use Rattle.wiring.proofs.Ends.{head_inside}
+use Rattle.wiring.proofs.Ends.{lead_or_none, head_inside}
 use Rattle.wiring.proofs.Runs.{lead_sum}
 use Rattle.wiring.proofs.Lengths.{to_sum, from_sum, fed_sums, sums_fed}
 use Rattle.wiring.proofs.FromLengths.{drains_sums, sums_drains}
@@ -21,18 +21,10 @@ level_decides {K = K} L {x} {y} a b = (
 )
 
 pub lead_at : {D : Type 0} (N : Net D) (k : ℕ) → is_lead N k ≡ true → (l : Lead D) × Holds N k l
-lead_at {D} N k e = go (N.at k) refl e
-  where
-    go : (o : Option (Lead D)) → N.at k ≡ o → stands o ≡ true → (l : Lead D) × Holds N k l
-    go (Some l) h e = (l, h)
-    go None h e = absurd (both_ways false refl e)
+lead_at N k e = ⊎_elim (λ h. h) (λ n. absurd (both_ways (is_lead N k) (ap stands n) e)) (lead_or_none N k)
 
 pub none_at : {D : Type 0} (N : Net D) (k : ℕ) → is_lead N k ≡ false → N.at k ≡ None
-none_at {D} N k e = go (N.at k) refl e
-  where
-    go : (o : Option (Lead D)) → N.at k ≡ o → stands o ≡ false → N.at k ≡ None
-    go (Some l) h e = absurd (both_ways true e refl)
-    go None h e = h
+none_at N k e = ⊎_elim (λ h. absurd (both_ways (is_lead N k) e (ap stands h.1))) (λ n. n) (lead_or_none N k)
 
 module _ {D : Type 0} {K : Kind D} (L : Laws K) {N : Net D} (S : Sound K N) {to from : ℕ → D} (T : Tables K N to from) where
   -- told from the tables, the marks are the types
