@@ -163,11 +163,8 @@ module _ {D : Type 0} {K : Kind D} (L : Laws K) {N : Net D} (S : Sound K N) {to 
         omega arith
 
     one_vacant : (k : ℕ) → is_lead N k ≡ false → ◌≡◌ {A = ℕ} (cond (c k) 1 0) 0
-    one_vacant k e = go (c k) refl
-      where
-        go : (b : Bool) → c k ≡ b → ◌≡◌ {A = ℕ} (cond b 1 0) 0
-        go true q = absurd (both_ways (is_lead N k) e (ap stands (on_lead S P ((C k).0 q).through).1))
-        go false q = refl
+    one_vacant k e = ap (λ (b : Bool). cond {A = ℕ} b 1 0)
+        (false_from_ne_true (c k) (λ q. both_ways (is_lead N k) e (ap stands (on_lead S P ((C k).0 q).through).1)))
 
   -- how often each lead is covered by the paths of a list
   record Counted (ps : List (List ℕ)) : Type 0 where
