@@ -1,5 +1,5 @@
 -- Every history of calls keeps the limits of a sheet.
-use Rattle.std.proofs.Common.{◌≡◌, ℕ, zero, suc, ◌≤◌, true, ◌&&◌, ltb, leb, List, [], ◌∷◌, length, take, drop, set, replicate, Some, None, Option, subst, le_trans, arith}
+use Rattle.std.proofs.Common.{◌≡◌, ℕ, zero, suc, ◌≤◌, true, ltb, List, [], ◌∷◌, length, take, drop, set, replicate, Some, None, Option, subst, le_trans, arith}
 use Rattle.std.specs.List.{All, AllByRecursion}
 use Rattle.std.specs.Int.Digits.{number_from_digits}
 use Rattle.std.proofs.lemmas.List.{length-set, length-replicate, length-take}

@@ -1,5 +1,5 @@
 -- A sheet written to a file and loaded again is the same sheet.
-use Rattle.std.proofs.Common.{◌≡◌, ℕ, suc, ◌+◌, ◌≤◌, true, not, ◌&&◌, ltb, leb, List, [], ◌∷◌, ◌++◌, length, take, drop, replicate, Some, None, Option, sym, refl, ap, ◌∙◌, subst, ap₂, arith}
+use Rattle.std.proofs.Common.{◌≡◌, ℕ, suc, ◌+◌, ◌≤◌, not, ltb, List, [], ◌∷◌, ◌++◌, length, take, drop, replicate, Some, None, Option, sym, refl, ap, ◌∙◌, subst, ap₂, arith}
 use Rattle.std.specs.List.{flat_map, AllByRecursion}
 use Rattle.std.proofs.lemmas.List.{append_assoc, length-append, get_or_at, set_at, take_at, drop_at, drop-drop}
 use Rattle.std.proofs.lemmas.List.Elements.{All-from_recursion, recursion_from_All, All-weaker}
@@ -10,7 +10,7 @@ use Rattle.circuit.specs.declared.Times.{Times}
 use Rattle.circuit.specs.File.{Byte, Header, header_in, record_start, signs_in, record_bytes, first_records, LeadRecord, records_in, header_for}
 use Rattle.circuit.specs.Sheet.{PlainSheet, empty, held, records_from, written}
 use Rattle.circuit.specs.Sheet.{Tables, most_nodes, most_places, most_picoseconds, LeadLimits, PlaceLimits, Limits}
-use Rattle.circuit.specs.Calls.{lay, load, accepted, all_signs, file_rules, load_rules, edit_rules, fresh, edit_at, laid, step}
+use Rattle.circuit.specs.Calls.{lay, load, accepted, file_rules, load_rules, edit_rules, fresh, edit_at, laid, step}
 use Rattle.circuit.proofs.Judging.{AllKept, judge_kept, both_at_most, all_signs_decides}
 use Rattle.circuit.proofs.FileForm.{RecordFits, records_back, header_back, file_length, file_is_bytes}
 

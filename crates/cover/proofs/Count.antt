@@ -1,6 +1,6 @@
 -- The lower bound: a list of paths that covers every lead gives loads with a total of at most its number of paths.
 use Rattle.std.proofs.Common.{◌≡◌, ℕ, zero, suc, ◌+◌, ◌<◌, ◌≤◌, Bool, true, false, cond, ◌&&◌, ◌||◌, List, [], ◌∷◌, ◌++◌, length, Decides, sym, refl, ap, ◌∙◌, subst, inl, inr, ⊎_elim, append_assoc, arith}
-use Rattle.std.proofs.lemmas.Bool.{cases_Bool, cond_both, false_from_ne_true, both_ways, and_parts, and_from, eq-eqb}
+use Rattle.std.proofs.lemmas.Bool.{cond_both, false_from_ne_true, both_ways, and_parts, and_from, eq-eqb}
 use Rattle.std.proofs.lemmas.Bool.Decides.{same_from_decides, Decides-like}
 use Rattle.delay.specs.Kind.{Kind, Laws}
 use Rattle.wiring.specs.declared.Lead.{Lead}

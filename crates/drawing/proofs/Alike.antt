@@ -1,12 +1,12 @@
 -- Two wirings with the same leads at the same places have the same list, even if one has more vacant places.
-use Rattle.std.proofs.Common.{◌≡◌, ℕ, zero, suc, ◌≤◌, Bool, true, false, cond, not, ◌&&◌, ◌||◌, ltb, List, [], ◌∷◌, Some, None, Option, sym, refl, ap, ◌∙◌, subst, ap₂, inl, inr, ⊎_elim, arith}
+use Rattle.std.proofs.Common.{◌≡◌, ℕ, zero, suc, ◌≤◌, Bool, false, cond, not, ◌&&◌, ◌||◌, ltb, List, [], ◌∷◌, Some, None, Option, sym, refl, ap, ◌∙◌, subst, ap₂, inl, inr, ⊎_elim, arith}
 use mathlib.Core.Path.{fun_ext}
 use Rattle.std.proofs.lemmas.Bool.{cases_lt, and_left}
 use Rattle.std.specs.Cmp.{both_ways}
 use Rattle.wiring.specs.declared.Lead.{Lead}
 use Rattle.delay.specs.Kind.{Kind, Le}
 use Rattle.wiring.specs.Net.{Net, Holds, stands, tail_is, head_is, is_lead, leaves, enters, has_lead_in, has_lead_out, is_input, is_output, is_inner, is_bare}
-use Rattle.wiring.specs.Paths.{Run, stay, along, delay_in, delay_of}
+use Rattle.wiring.specs.Paths.{delay_in, delay_of}
 use Rattle.wiring.specs.Lengths.{To, From, Fed, Drains}
 use Rattle.wiring.specs.Lengths.{Marks, Types}
 use Rattle.wiring.specs.Loads.{starts, ends, is_start_lead, is_end_lead, sum_below, sum_where, Loads, total_load, Best, drain_out, fed_in, Balanced}

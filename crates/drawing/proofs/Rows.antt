@@ -1,12 +1,12 @@
 -- The definitions give every row of the table of small wirings: each row has a certificate, and one test that computes goes over all of them.
-use Rattle.std.proofs.Common.{◌≡◌, ℕ, Bool, true, false, not, nat_eq, ◌&&◌, ◌||◌, eqb, List, [], ◌∷◌, length, get_or, sym, refl, ap₂}
+use Rattle.std.proofs.Common.{◌≡◌, ℕ, Bool, true, false, nat_eq, ◌&&◌, ◌||◌, eqb, List, [], ◌∷◌, length, get_or, refl, ap₂}
 use Rattle.std.proofs.Math.Bool.{beq}
 use Rattle.std.specs.List.{AllByRecursion}
 use Rattle.std.specs.Cmp.{booleans_Decides}
 use Rattle.std.specs.Cmp.Lexicographic.{pointwise}
 use Rattle.std.proofs.lemmas.Bool.Decides.{Decides-eqb}
 use Rattle.std.proofs.lemmas.Slice.Eq.{slice_eq-Decides}
-use Rattle.std.proofs.lemmas.Bool.{both_ways, and_parts, eqb-true}
+use Rattle.std.proofs.lemmas.Bool.{both_ways, and_parts}
 use Rattle.delay.specs.Kind.{Kind, Laws}
 use Rattle.delay.specs.Delivered.{picosecond_kind, contact_kind, early_kind}
 use Rattle.delay.specs.DeliveredLaws.{picosecond_laws, contact_laws, early_laws}

@@ -1,5 +1,5 @@
 -- What the turned view of a wiring tells: its runs are those of the wiring the other way round, and its To is From.
-use Rattle.std.proofs.Common.{◌≡◌, ℕ, ◌<◌, Bool, true, false, not, ◌&&◌, eqb, ltb, List, [], ◌∷◌, reverse, Some, None, Option, sym, refl, ap, ◌∙◌, subst, inl, inr, ⊎_elim, arith}
+use Rattle.std.proofs.Common.{◌≡◌, ℕ, ◌<◌, not, ◌&&◌, eqb, ltb, List, [], ◌∷◌, reverse, Some, Option, sym, refl, ap, ◌∙◌, subst, inl, inr, ⊎_elim, arith}
 use mathlib.Core.Path.{fun_ext}
 use mathlib.Core.List.{reverse-cons, reverse-reverse}
 use Rattle.std.proofs.Math.Bool.{and_comm}
