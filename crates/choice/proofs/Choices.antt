@@ -1,8 +1,8 @@
 -- Every choice has an outcome, only the witness is free in it, and an accepted list is right.
 use Rattle.std.proofs.Common.{◌≡◌, ℕ, ◌+◌, ◌<◌, ◌⊎◌, List, [], ◌∷◌, ◌++◌, length, take, drop, Ok, Err, Result, sym, refl, ap, ◌∙◌, subst, inl, inr, ⊎_elim, arith}
-use Rattle.std.specs.List.{AllByRecursion}
+use Rattle.std.specs.List.{All}
 use Rattle.std.proofs.lemmas.List.{take_at, drop_at}
-use Rattle.std.proofs.ByRecursion.{All-weaker}
+use Rattle.std.proofs.lemmas.List.Elements.{All-nil, All-cons, All-append, All-weaker, recursion_from_All}
 use Rattle.std.proofs.lemmas.Bool.{cases_lt}
 use Rattle.delay.specs.Kind.{Kind, Laws}
 use Rattle.wiring.specs.Net.{Net, Sound}
@@ -37,9 +37,6 @@ refused_agree {c = c} e A B = record {
   word_row = A.word_row ∙ sym B.word_row;
   witness_row = ap (drop (witness_size c.answer)) (A.witness_row ∙ sym B.witness_row);
 }
-
-over_front : (row xs : List ℕ) (n : ℕ) → length xs ≡ n → take n (over row xs) ≡ xs
-over_front row xs n e = take_at xs (drop (length xs) row) n e
 
 over_past : (row xs : List ℕ) (n : ℕ) → length xs ≡ n → drop n (over row xs) ≡ drop n row
 over_past row xs n e = drop_at xs (drop (length xs) row) n e ∙ ap (λ (k : ℕ). drop k row) e
@@ -116,13 +113,13 @@ module _ {D : Type 0} {K : Kind D} {N : Net D} {g : Lent} where
           (enough_or_short ps r.1)
 
 -- the leads of a run are places
-run_places : {D : Type 0} {N : Net D} {u v : ℕ} {ks : List ℕ} → Run N u v ks → AllByRecursion (λ k. k < N.places) ks
-run_places (stay e) = tt
-run_places {N = N} (along {k = k} l h t r) = (below_places N k l h, run_places r)
+run_places : {D : Type 0} {N : Net D} {u v : ℕ} {ks : List ℕ} → Run N u v ks → All (λ k. k < N.places) ks
+run_places {N = N} (stay e) = All-nil (λ k. k < N.places)
+run_places {N = N} (along {k = k} {ks = ks} l h t r) = All-cons (λ k. k < N.places) k ks (below_places N k l h) (run_places r)
 
 -- an answer is Ok or Err, and not both
 not_both : {n : Counts} {r : Refusal} {a : Result Counts Refusal} → a ≡ Ok n → a ≡ Err r → ⊥
-not_both e f = let z : ◌≡◌ {A = ℕ} 0 1 = cc in omega arith
+not_both e f = cc
 
 -- an accepted choice, with its list
 pub record Listed {D : Type 0} (K : Kind D) (N : Net D) (g : Lent) (n : Counts) (c : Choice) : Type 0 where
@@ -138,17 +135,13 @@ listed (too_short f s p) e = absurd (not_both e p.answer)
 listed {n = n} (accepted f ps X E p) e = record { sound = f; paths = ps; list = X; accepts = p; is = let q = p.answer in cc }
 
 pub words_taken : {D : Type 0} {K : Kind D} {N : Net D} {g : Lent} {c : Choice} {n : Counts} (X : Listed K N g n c) → take n.words c.word_row ≡ words X.paths
-words_taken {g = g} {n = n} X = ap (take n.words) X.accepts.word_row ∙ over_front g.word_row (words X.paths) n.words (sym (ap (λ (m : Counts). m.words) X.is))
+words_taken {g = g} {n = n} X = ap (take n.words) X.accepts.word_row ∙ take_at (words X.paths) _ n.words (sym (ap (λ (m : Counts). m.words) X.is))
 
-all_append : (P : ℕ → Type 0) (xs ys : List ℕ) → AllByRecursion P xs → AllByRecursion P ys → AllByRecursion P (xs ++ ys)
-all_append P [] ys a b = b
-all_append P (x ∷ xs) ys a b = (a.0, all_append P xs ys a.1 b)
-
-words_below : (m : ℕ) (ps : List (List ℕ)) → ((p : List ℕ) → OneOf ps p → (length p < m) × AllByRecursion (λ k. k < m) p) → AllByRecursion (λ w. w < m) (words ps)
-words_below m [] h = tt
+words_below : (m : ℕ) (ps : List (List ℕ)) → ((p : List ℕ) → OneOf ps p → (length p < m) × All (λ k. k < m) p) → All (λ w. w < m) (words ps)
+words_below m [] h = All-nil (λ w. w < m)
 words_below m (p ∷ ps) h =
     let here = h p (inl refl) in
-    (here.0, all_append (λ w. w < m) p (words ps) here.1 (words_below m ps (λ q o. h q (inr o))))
+    All-cons (λ w. w < m) (length p) (p ++ words ps) here.0 (All-append (λ w. w < m) p (words ps) here.1 (words_below m ps (λ q o. h q (inr o))))
 
 module _ {D : Type 0} {K : Kind D} (L : Laws K) where
   pub choice_exists : ChoiceExists K
@@ -164,17 +157,17 @@ module _ {D : Type 0} {K : Kind D} (L : Laws K) where
       let F = list_smallest L N S X.paths X.list in
       let A = X.accepts in
       let number : length X.paths ≡ n.paths = sym (ap (λ (m : Counts). m.paths) X.is) in
-      let taken : take n.paths c.witness_row ≡ A.witness = ap (take n.paths) A.witness_row ∙ over_front g.witness_row A.witness n.paths (A.shows.count ∙ number) in
+      let taken : take n.paths c.witness_row ≡ A.witness = ap (take n.paths) A.witness_row ∙ take_at A.witness _ n.paths (A.shows.count ∙ number) in
       record {
         paths = X.paths;
         list = X.list;
         path_number = number;
         word_number = sym (ap (λ (m : Counts). m.words) X.is);
         words_are = words_taken X;
-        words_fit = words_below 4096 X.paths (λ p o. (
+        words_fit = recursion_from_All (λ w. w < 4096) (words X.paths) (words_below 4096 X.paths (λ p o. (
           omega (arith, F.short p o, S.few_nodes),
           All-weaker (λ k. k < N.places) (λ k. k < 4096) (λ k h. omega (arith, S.few_places)) p (run_places (F.paths p o).run),
-        ));
+        )));
         are_paths = F.paths;
         covers = F.covers;
         least = λ qs P V. omega (arith, F.least qs P V);

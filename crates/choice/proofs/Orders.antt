@@ -1,6 +1,7 @@
 -- The wirings that break two rules at once are refused as the table says, and so are the rows of small wirings.
-use Rattle.std.proofs.Common.{◌≡◌, ℕ, zero, suc, ◌<◌, ◌≤◌, List, [], ◌∷◌, length, get_or, take, Some, None, Ok, Err, Option, refl, ap, ◌∙◌, subst, inl, inr, arith, lit<, lit≤, length-append}
+use Rattle.std.proofs.Common.{◌≡◌, ℕ, zero, suc, ◌<◌, ◌≤◌, List, [], ◌∷◌, length, get_or, take, Some, None, Ok, Err, Option, sym, refl, ap, ◌∙◌, subst, inl, inr, arith, lit<, lit≤, length-append}
 use lib.ListN.{length-replicate}
+use Rattle.std.proofs.lemmas.Option.{none-some, same_Some}
 use Rattle.delay.specs.Kind.{Kind}
 use Rattle.delay.specs.declared.Picoseconds.{Picoseconds}
 use Rattle.delay.specs.Delivered.{picosecond_kind}
@@ -35,18 +36,12 @@ wide n ls h = only (case n ls Size) (faulty fault.Size (inr h) (refuses nothing 
 few : (x : Case) → x.nodes < 4097 → length x.leads < 4097 → Sized (net_of x)
 few x a b = (omega arith, omega arith)
 
-none_held : {D : Type 0} {o : Option (Lead D)} {l : Lead D} → o ≡ None → o ≡ Some l → ⊥
-none_held e h = let z : ◌≡◌ {A = ℕ} 0 1 = cc in omega arith
-
-one_held : {D : Type 0} {l m : Lead D} → Some l ≡ Some m → l ≡ m
-one_held h = cc
-
 -- the lead l at place k has the fault f, and no lead stands before it
 bad_at : (n : ℕ) (ls : List (Option (Lead Picoseconds))) (f : Fault) (k : ℕ) (l : Lead Picoseconds) → n < 4097 → length ls < 4097 →
     Holds (net_of (case n ls (refusal_of f))) k l → Breaks picosecond_kind n k l f → ((j : ℕ) → j < k → get_or ls j None ≡ None) → RefusedSo (case n ls (refusal_of f))
 bad_at n ls f k l a b h breaks none =
     let x = case n ls (refusal_of f) in
-    only x (faulty f (finds_first picosecond_kind (net_of x) (few x a b) k (λ j i m e. absurd (none_held (none j i) e)) f (l, h, breaks)) (refuses nothing (refusal_of f)))
+    only x (faulty f (finds_first picosecond_kind (net_of x) (few x a b) k (λ j i m e. absurd (none-some m (sym (none j i) ∙ e))) f (l, h, breaks)) (refuses nothing (refusal_of f)))
 
 -- one good lead, and no room
 one_good : (n : ℕ) (l : Lead Picoseconds) → n < 4097 → Keeps picosecond_kind n l → RefusedSo (case n (Some l ∷ []) Room)
@@ -56,7 +51,7 @@ one_good n l s keeps = only it (too_short (sound_if_all picosecond_kind (net_of 
     it = case n (Some l ∷ []) Room
 
     good : KeepsBelow picosecond_kind (net_of (case n (Some l ∷ []) Room)) 1
-    good zero i m h = subst (Keeps picosecond_kind n) (one_held h) keeps
+    good zero i m h = subst (Keeps picosecond_kind n) (same_Some l m h) keeps
     good (suc k) i m h = absurd (omega arith)
 
 vacant_first : (ls : List (Option (Lead Picoseconds))) (j : ℕ) → j < 1 → get_or (None ∷ ls) j None ≡ None
@@ -95,7 +90,7 @@ orders_stand = (
 
 -- the list 1 0 has one path
 one_path : (ps : List (List ℕ)) → words ps ≡ 1 ∷ 0 ∷ [] → length ps ≡ 1
-one_path [] e = let z : ◌≡◌ {A = ℕ} 0 1 = cc in absurd (omega arith)
+one_path [] e = cc
 one_path (p ∷ []) e = refl
 one_path (p ∷ q ∷ qs) e = absurd (omega (arith, ap length e, length-append p (words (q ∷ qs)), one))
   where
@@ -106,7 +101,7 @@ row_sound : Sound picosecond_kind (wired picosecond_kind one_lead)
 row_sound = sound_if_all picosecond_kind (wired picosecond_kind one_lead) (lit≤ tt, lit≤ tt) good
   where
     good : KeepsBelow picosecond_kind (wired picosecond_kind one_lead) 1
-    good zero i m h = subst (Keeps picosecond_kind 2) (one_held h) ((lit< tt, lit< tt), refl)
+    good zero i m h = subst (Keeps picosecond_kind 2) (same_Some _ m h) ((lit< tt, lit< tt), refl)
     good (suc k) i m h = absurd (omega arith)
 
 row_gives : Gives picosecond_kind one_lead

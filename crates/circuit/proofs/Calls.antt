@@ -1,22 +1,23 @@
 -- What a refused call leaves, and what an accepted edit changes.
-use Rattle.std.proofs.Common.{◌≡◌, ℕ, ◌<◌, List, [], ◌∷◌, length, Some, None, refl, ap, ◌∙◌, arith}
+use Rattle.std.proofs.Common.{◌≡◌, ℕ, ◌<◌, List, [], ◌∷◌, length, Some, None, sym, refl, ap, ◌∙◌}
 use Rattle.std.specs.List.{AllByRecursion}
 use Rattle.std.proofs.lemmas.List.{length-set, get_or-set_same, get_or-set_other}
-use Rattle.std.proofs.lemmas.Bool.{ltb-true}
+use Rattle.std.proofs.lemmas.Bool.{ltb-true, cond_both}
+use Rattle.std.proofs.lemmas.Option.{none-some}
 use Rattle.wiring.specs.declared.refusals.Refusal.{Refusal}
 use Rattle.circuit.specs.File.{header_in, signs_in, LeadRecord, records_in}
 use Rattle.circuit.specs.Sheet.{PlainSheet, empty, held}
 use Rattle.circuit.specs.Calls.{Edit, lay, retime, lift, open_with, load, at_place, choose, Rule, Outcome, accepted, refused, judge}
 use Rattle.circuit.specs.Calls.{open_rules, load_rules, edit_rules, fresh, edited, edit_at, laid}
 use Rattle.circuit.specs.Claims.{left_by, RefusedCallsLeave, OnePlaceEdited, EditsChangeOnePlace}
-use Rattle.circuit.proofs.Judging.{AllKept, one_rule, judge_either}
+use Rattle.circuit.proofs.Judging.{AllKept, judge_either}
 
 -- a refusal r leaves the sheet (f r)
 abbrev Leaves : (Refusal → PlainSheet) → Outcome → Type 0
 Leaves f o = (r : Refusal) → o.refusal ≡ Some r → o.sheet ≡ f r
 
 accepted_leaves : (f : Refusal → PlainSheet) (t : PlainSheet) → Leaves f (accepted t)
-accepted_leaves f t r e = let z : ◌≡◌ {A = ℕ} 0 1 = cc in absurd (omega arith)
+accepted_leaves f t r e = absurd (none-some r e)
 
 refused_leaves : (f : Refusal → PlainSheet) (s : PlainSheet) (q : Refusal) → s ≡ f q → Leaves f (refused s q)
 refused_leaves f s q h r e = let same : q ≡ r = cc in h ∙ ap f same
@@ -25,8 +26,7 @@ judge_leaves : (f : Refusal → PlainSheet) (rs : List Rule) (s : PlainSheet) (o
     Leaves f o → Leaves f (judge rs s o)
 judge_leaves f [] s o h g = g
 judge_leaves f (r ∷ rs) s o h g =
-    one_rule (Leaves f) r.kept (judge rs s o) (refused s r.refusal) (λ _. judge_leaves f rs s o h.1 g)
-    (refused_leaves f s r.refusal h.0)
+    cond_both r.kept (judge rs s o) (refused s r.refusal) (Leaves f) (λ _. judge_leaves f rs s o h.1 g) (λ _. refused_leaves f s r.refusal h.0)
 
 -- s is the sheet that the call was made on, t the one that the file opened
 laid_leaves : (s t : PlainSheet) (bs : List ℕ) (rs : List LeadRecord) → Leaves (left_by s (load bs)) (laid t rs)
@@ -56,7 +56,7 @@ abbrev Edited : PlainSheet → ℕ → Edit → Outcome → Type 0
 Edited s k d o = o.refusal ≡ None → OnePlaceEdited s k d o.sheet
 
 refused_edit : (s : PlainSheet) (k : ℕ) (d : Edit) (r : Refusal) → Edited s k d (refused s r)
-refused_edit s k d r e = let z : ◌≡◌ {A = ℕ} 0 1 = cc in absurd (omega arith)
+refused_edit s k d r e = absurd (none-some r (sym e))
 
 inside_by : (s : PlainSheet) (k : ℕ) (d : Edit) → AllKept (edit_rules s k d) → k < length s.leads
 inside_by s k (lay l) kept = ltb-true k (length s.leads) kept.0

@@ -1,9 +1,11 @@
 -- Numbers 2v and 2v+1 for the two edges, and which leads of the circuit stand behind those of the spread.
-use Rattle.std.proofs.Common.{◌≡◌, ℕ, ◌+◌, ◌*◌, ◌%◌, ◌≤◌, Bool, true, false, cond, eqb, Some, None, Option, sym, refl, ap, ◌∙◌, ⊎_elim, arith}
+use Rattle.std.proofs.Common.{◌≡◌, ℕ, ◌+◌, ◌*◌, ◌%◌, ◌≤◌, Bool, true, false, cond, eqb, sym, refl, ap, ◌∙◌, ⊎_elim, arith}
 use Rattle.std.proofs.lemmas.Bool.{cases_Bool, cond-true, cond-false, eq-eqb, ne_eqb, eqb-true, eqb-false}
+use Rattle.std.proofs.lemmas.Option.{none-some, same_Some}
 use Rattle.wiring.specs.declared.Lead.{Lead}
 use Rattle.delay.specs.Kind.{Kind}
 use Rattle.wiring.specs.Net.{Net, Holds}
+use Rattle.wiring.proofs.Ends.{lead_or_none}
 use Rattle.circuit.specs.declared.Times.{Times}
 use Rattle.circuit.specs.Spread.{Edge, rising, falling, reversed, carried, copy, half, edge_of, spread_lead, spread_place, spread_net}
 
@@ -51,12 +53,7 @@ module _ (sign : ℕ → ℕ) {D : Type 0} (K : Kind D) (C : Net Times) where
       ∙ ap (spread_place sign K e) (ap C.at (copy_half k e) ∙ h)
 
   pub spread_held : (j : ℕ) (m : Lead D) → Holds (spread_net sign K C) j m → Behind sign K C j m
-  spread_held j m h = go (C.at (half j)) refl
-    where
-      go : (o : Option (Lead Times)) → C.at (half j) ≡ o → Behind sign K C j m
-      go (Some l) e =
-          let q : Some (spread_lead sign K (edge_of j) l) ≡ Some m = sym (ap (spread_place sign K (edge_of j)) e) ∙ h in
-          record { lead = l; holds = e; is = cc }
-      go None e =
-          let q : None ≡ Some m = sym (ap (spread_place sign K (edge_of j)) e) ∙ h in
-          let z : ◌≡◌ {A = ℕ} 0 1 = cc in absurd (omega arith)
+  spread_held j m h = let place = spread_place sign K (edge_of j) in ⊎_elim
+      (λ l. record { lead = l.0; holds = l.1; is = same_Some m (spread_lead sign K (edge_of j) l.0) (sym h ∙ ap place l.1) })
+      (λ n. absurd (none-some m (sym (ap place n) ∙ h)))
+      (lead_or_none C (half j))

@@ -1,8 +1,8 @@
 -- Reading the file form gives back what was written in it.
 use Rattle.std.proofs.Common.{◌≡◌, ℕ, zero, suc, ◌*◌, ◌/◌, ◌%◌, ◌<◌, List, [], ◌∷◌, ◌++◌, length, refl, ap₂, arith}
-use Rattle.std.specs.List.{flat_map, AllByRecursion}
+use Rattle.std.specs.List.{flat_map, All, AllByRecursion}
 use Rattle.std.proofs.lemmas.List.{length-append}
-use Rattle.std.proofs.ByRecursion.{All-append}
+use Rattle.std.proofs.lemmas.List.Elements.{All-nil, All-push, All-append}
 use Rattle.circuit.specs.File.{Byte, field, bytes, Header, header_in, header_bytes, record_start, LeadRecord, record_in, record_bytes, first_records}
 use Rattle.circuit.specs.File.{header_for, file_bytes}
 
@@ -64,14 +64,14 @@ pub file_length : (signs : List ℕ) (places : ℕ) (rs : List LeadRecord) → l
 file_length signs places rs = let a = length-append signs (flat_map record_bytes rs) in let b = records_length rs in omega arith
 
 -- a field is made of bytes, with bytes behind it too
-field_bytes : (width n : ℕ) → AllByRecursion Byte (bytes width n)
-field_bytes zero n = tt
-field_bytes (suc width) n = All-append Byte (bytes width (n / 256)) (n % 256 ∷ []) (field_bytes width (n / 256)) (omega arith, tt)
+field_bytes : (width n : ℕ) → All Byte (bytes width n)
+field_bytes zero n = All-nil Byte
+field_bytes (suc width) n = All-push Byte (bytes width (n / 256)) (n % 256) (field_bytes width (n / 256)) (omega arith)
 
-field_then : (width n : ℕ) (bs : List ℕ) → AllByRecursion Byte bs → AllByRecursion Byte (bytes width n ++ bs)
+field_then : (width n : ℕ) (bs : List ℕ) → All Byte bs → All Byte (bytes width n ++ bs)
 field_then width n bs h = All-append Byte (bytes width n) bs (field_bytes width n) h
 
-header_is_bytes : (h : Header) → AllByRecursion Byte (header_bytes h)
+header_is_bytes : (h : Header) → All Byte (header_bytes h)
 header_is_bytes h =
     let from_leads = bytes 2 h.leads in
     let from_Places = bytes 2 h.places ++ from_leads in
@@ -80,7 +80,7 @@ header_is_bytes h =
     field_then 1 h.version from_size (field_then 4 h.size from_nodes
     (field_then 2 h.nodes from_Places (field_then 2 h.places from_leads (field_bytes 2 h.leads))))
 
-record_is_bytes : (r : LeadRecord) → AllByRecursion Byte (record_bytes r)
+record_is_bytes : (r : LeadRecord) → All Byte (record_bytes r)
 record_is_bytes r =
     let l = r.lead in let t = l.delay in
     let from_contacts = bytes 1 t.contacts in
@@ -91,11 +91,11 @@ record_is_bytes r =
     field_then 2 r.place from_tail (field_then 2 l.tail from_head (field_then 2 l.head from_rise
     (field_then 4 t.rise from_fall (field_then 4 t.fall from_contacts (field_bytes 1 t.contacts)))))
 
-records_are_bytes : (rs : List LeadRecord) → AllByRecursion Byte (flat_map record_bytes rs)
-records_are_bytes [] = tt
+records_are_bytes : (rs : List LeadRecord) → All Byte (flat_map record_bytes rs)
+records_are_bytes [] = All-nil Byte
 records_are_bytes (r ∷ rs) = All-append Byte (record_bytes r) (flat_map record_bytes rs) (record_is_bytes r) (records_are_bytes rs)
 
-pub file_is_bytes : (signs : List ℕ) (places : ℕ) (rs : List LeadRecord) → AllByRecursion Byte signs → AllByRecursion Byte (file_bytes signs places rs)
+pub file_is_bytes : (signs : List ℕ) (places : ℕ) (rs : List LeadRecord) → All Byte signs → All Byte (file_bytes signs places rs)
 file_is_bytes signs places rs h =
     All-append Byte (header_bytes (header_for signs places rs)) (signs ++ flat_map record_bytes rs) (header_is_bytes (header_for signs places rs))
     (All-append Byte signs (flat_map record_bytes rs) h (records_are_bytes rs))

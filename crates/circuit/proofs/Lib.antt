@@ -7,4 +7,3 @@ pub mod Copies
 pub mod Spreads
 pub mod Pairs
 pub mod Claims
-pub mod Examples

@@ -1,7 +1,7 @@
 -- Paths of the spread and pairs of a circuit path and a launched edge correspond one to one, with equal delays.
-use Rattle.std.proofs.Common.{◌≡◌, ℕ, ◌%◌, Bool, true, false, cond, not, ◌&&◌, eqb, List, [], ◌∷◌, map, Decides, sym, refl, ap, ◌∙◌, subst, ap₂, arith}
+use Rattle.std.proofs.Common.{◌≡◌, ℕ, ◌%◌, Bool, true, false, cond, not, ◌&&◌, eqb, List, [], ◌∷◌, map, Decides, sym, refl, ap, ◌∙◌, subst, ap₂}
 use Rattle.std.proofs.lemmas.Bool.{both_ways}
-use Rattle.std.proofs.lemmas.Bool.Decides.{same_from_decides}
+use Rattle.std.specs.Cmp.{both_ways as same_tests}
 use Rattle.wiring.specs.declared.Lead.{Lead}
 use Rattle.delay.specs.Kind.{Kind}
 use Rattle.wiring.specs.Net.{Net, Holds, has_lead_in, has_lead_out, is_input, is_output}
@@ -13,13 +13,10 @@ use Rattle.circuit.specs.Spread.{Edge, rising, falling, half, edge_of, copy, cos
 use Rattle.circuit.specs.Spread.{edge_over, cost_over, pair_delay, StandsFor, OneToOne}
 use Rattle.circuit.proofs.Copies.{copy_half, copy_edge, copy_back, carried_twice, Behind, spread_holds, spread_held}
 
-same_tests : (a b : Bool) → (a ≡ true → b ≡ true) → (b ≡ true → a ≡ true) → a ≡ b
-same_tests a b f g = same_from_decides {P = b ≡ true} a b (f, g) (λ e. e, λ e. e)
-
 -- an edge told by an even number is a rising one
 even_edge : (b : Bool) (e : Edge) → cond b rising falling ≡ e → Decides b (e ≡ rising)
 even_edge true e h = (λ _. sym h, λ _. refl)
-even_edge false e h = (λ f. absurd (both_ways false refl f), λ q. let z : ◌≡◌ {A = ℕ} 0 1 = cc in absurd (omega arith))
+even_edge false e h = (λ f. absurd (both_ways false refl f), λ q. cc)
 
 module _ (sign : ℕ → ℕ) {D : Type 0} (K : Kind D) (C : Net Times) where
   abbrev N : Net D
@@ -97,8 +94,8 @@ module _ (sign : ℕ → ℕ) {D : Type 0} (K : Kind D) (C : Net Times) where
   -- runs along the same circuit leads that start with the same edge are the same
   run_same : {u v x y : ℕ} {js is : List ℕ} → Run N u v js → Run N x y is → edge_of u ≡ edge_of x → map half js ≡ map half is → js ≡ is
   run_same (stay _) (stay _) p q = refl
-  run_same {is = i ∷ is} (stay _) (along m h t r) p q = let z : ◌≡◌ {A = ℕ} 0 1 = cc in absurd (omega arith)
-  run_same {js = j ∷ js} (along m h t r) (stay _) p q = let z : ◌≡◌ {A = ℕ} 0 1 = cc in absurd (omega arith)
+  run_same {is = i ∷ is} (stay _) (along m h t r) p q = cc
+  run_same {js = j ∷ js} (along m h t r) (stay _) p q = cc
   run_same {js = j ∷ js} {is = i ∷ is} (along m h t r) (along n g w s) p q =
       let a : half j ≡ half i = cc in
       let c : map half js ≡ map half is = cc in

@@ -1,8 +1,8 @@
 -- A sheet written to a file and loaded again is the same sheet.
-use Rattle.std.proofs.Common.{◌≡◌, ℕ, suc, ◌+◌, ◌≤◌, true, not, ◌&&◌, ltb, leb, List, [], ◌∷◌, ◌++◌, length, take, drop, replicate, Some, None, Option, sym, refl, ap, ◌∙◌, subst, ap₂, arith}
+use Rattle.std.proofs.Common.{◌≡◌, ℕ, suc, ◌+◌, ◌≤◌, not, ltb, List, [], ◌∷◌, ◌++◌, length, take, drop, replicate, Some, None, Option, sym, refl, ap, ◌∙◌, subst, ap₂, arith}
 use Rattle.std.specs.List.{flat_map, AllByRecursion}
 use Rattle.std.proofs.lemmas.List.{append_assoc, length-append, get_or_at, set_at, take_at, drop_at, drop-drop}
-use Rattle.std.proofs.ByRecursion.{All-weaker}
+use Rattle.std.proofs.lemmas.List.Elements.{All-from_recursion, recursion_from_All, All-weaker}
 use Rattle.std.proofs.lemmas.Bool.{and_from, lt-ltb, le-leb, eq-eqb}
 use Rattle.wiring.specs.declared.Lead.{Lead}
 use Rattle.wiring.specs.Net.{stands}
@@ -10,16 +10,9 @@ use Rattle.circuit.specs.declared.Times.{Times}
 use Rattle.circuit.specs.File.{Byte, Header, header_in, record_start, signs_in, record_bytes, first_records, LeadRecord, records_in, header_for}
 use Rattle.circuit.specs.Sheet.{PlainSheet, empty, held, records_from, written}
 use Rattle.circuit.specs.Sheet.{Tables, most_nodes, most_places, most_picoseconds, LeadLimits, PlaceLimits, Limits}
-use Rattle.circuit.specs.Calls.{lay, load, accepted, all_signs, file_rules, load_rules, edit_rules, fresh, edit_at, laid, step}
-use Rattle.circuit.proofs.Judging.{AllKept, judge_kept}
+use Rattle.circuit.specs.Calls.{lay, load, accepted, file_rules, load_rules, edit_rules, fresh, edit_at, laid, step}
+use Rattle.circuit.proofs.Judging.{AllKept, judge_kept, both_at_most, all_signs_decides}
 use Rattle.circuit.proofs.FileForm.{RecordFits, records_back, header_back, file_length, file_is_bytes}
-
-both_at_most : (a b m n : ℕ) → a ≤ m → b ≤ n → (leb a m && leb b n) ≡ true
-both_at_most a b m n h k = and_from (leb a m) (leb b n) (le-leb a m h) (le-leb b n k)
-
-signs_to : (xs : List ℕ) → AllByRecursion (λ x. x ≤ 1) xs → all_signs xs ≡ true
-signs_to [] h = refl
-signs_to (x ∷ xs) h = and_from (leb x 1) (all_signs xs) (le-leb x 1 h.0) (signs_to xs h.1)
 
 abbrev Places : Type 0
 Places = List (Option (Lead Times))
@@ -40,7 +33,7 @@ module _ (signs : List ℕ) where
           ap (λ p. not (stands p)) vacant,
           (
             and_from (ltb l.tail l.head) (ltb l.head n) (lt-ltb l.tail l.head o.upwards) (lt-ltb l.head n o.inside),
-            (both_at_most l.delay.rise l.delay.fall most_picoseconds most_picoseconds o.rise o.fall, tt),
+            ((both_at_most l.delay.rise l.delay.fall most_picoseconds most_picoseconds).1 (o.rise, o.fall), tt),
           ),
         ),
       )
@@ -125,8 +118,8 @@ module _ {z : Tables} {s : PlainSheet} (h : Limits z s) where
           (
             eq-eqb head.size size (sym is),
             (
-              both_at_most n (length s.leads) most_nodes most_places h.few_nodes h.few_places,
-              (both_at_most n (length s.leads) y.nodes y.places a b, (eq-eqb head.size head.size refl, (signs_to s.signs h.signs, tt))),
+              (both_at_most n (length s.leads) most_nodes most_places).1 (h.few_nodes, h.few_places),
+              ((both_at_most n (length s.leads) y.nodes y.places).1 (a, b), (eq-eqb head.size head.size refl, ((all_signs_decides s.signs).1 h.signs, tt))),
             ),
           ),
         ),
@@ -134,7 +127,8 @@ module _ {z : Tables} {s : PlainSheet} (h : Limits z s) where
       subst AllKept (sym (ap₂ (file_rules y size) header_is signs_are)) kept
 
   pub written_is_bytes : AllByRecursion Byte (written s)
-  written_is_bytes = file_is_bytes s.signs (length s.leads) rs (All-weaker (λ x. x ≤ 1) Byte (λ x i. omega arith) s.signs h.signs)
+  written_is_bytes = recursion_from_All Byte (written s) (file_is_bytes s.signs (length s.leads) rs
+      (All-weaker (λ x. x ≤ 1) Byte (λ x i. omega arith) s.signs (All-from_recursion (λ x. x ≤ 1) s.signs h.signs)))
 
   -- whatever was held before, and into any tables with room
   pub reloads : (y : Tables) (t : PlainSheet) → n ≤ y.nodes → length s.leads ≤ y.places → step y t (load (written s)) ≡ accepted s

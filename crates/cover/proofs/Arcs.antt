@@ -1,12 +1,13 @@
 -- The table of arcs of a wiring: it is sound and joined, and its loads are the wiring's.
-use Rattle.std.proofs.Common.{◌≡◌, ℕ, ◌<◌, ◌≤◌, Bool, true, false, cond, not, ◌&&◌, ◌||◌, eqb, ◌⊎◌, Some, None, Option, sym, refl, ap, ◌∙◌, subst, inl, inr, ⊎_elim, arith}
+use Rattle.std.proofs.Common.{◌≡◌, ℕ, ◌<◌, ◌≤◌, Bool, true, false, cond, not, ◌&&◌, ◌||◌, eqb, ◌⊎◌, sym, refl, ap, ◌∙◌, subst, inl, inr, ⊎_elim, arith}
+use Rattle.std.proofs.Math.Bool.{and-true}
 use Rattle.std.proofs.lemmas.Bool.{cases_Bool, cases_eq, both_ways, and_from, eq-eqb, ne_eqb}
 use Rattle.delay.specs.Kind.{Kind, Laws}
 use Rattle.wiring.specs.declared.Lead.{Lead}
 use Rattle.wiring.specs.Net.{Net, Holds, Sound, stands, tail_is, head_is, is_lead, has_lead_in, has_lead_out, is_inner}
 use Rattle.wiring.specs.Lengths.{Marks, Types}
 use Rattle.wiring.specs.Loads.{starts, ends, is_start_lead, is_end_lead, sum_where, Balanced, Loads, Best, total_load, drain_out, fed_in}
-use Rattle.wiring.proofs.Ends.{has_in, has_out, lead_in, lead_out, inner_parts}
+use Rattle.wiring.proofs.Ends.{lead_or_none, has_in, has_out, lead_in, lead_out, inner_parts}
 use Rattle.wiring.proofs.Types.{lead_at}
 use Rattle.wiring.proofs.Lengths.{local_to, sums_fed}
 use Rattle.wiring.proofs.FromLengths.{local_from, sums_drains}
@@ -50,11 +51,7 @@ lies_tells {place = place} {node = node} {mark = mark} {other = other} v (inl p)
     (λ e. ap (λ b. b && mark) (ne_eqb node v e))
     (cases_eq node v))
 lies_tells {place = place} {node = node} {mark = mark} v (inr p) n o =
-    ap (λ x. eqb x v) p.1 ∙ sym (ap (λ b. eqb node v && b) p.2 ∙ alone (eqb node v))
-  where
-    alone : (b : Bool) → (b && true) ≡ b
-    alone true = refl
-    alone false = refl
+    ap (λ x. eqb x v) p.1 ∙ sym (ap (λ b. eqb node v && b) p.2 ∙ and-true (eqb node v))
 
 -- where no node with leads on the other side is the pole, the end lies there just where it is outer
 lies_outer : {outer : Bool} {place pole node : ℕ} {mark other : Bool} → Lies outer place pole node mark other → (other ≡ true → node ≡ pole → ⊥) →
@@ -105,24 +102,20 @@ module _ {D : Type 0} {K : Kind D} {N : Net D} (S : Sound K N) (m : Marks) where
 
   -- at an inner node what ends are the fed leads in, and what begins are the draining leads out
   pub ends_fed : (v : ℕ) → is_inner N v ≡ true → (k : ℕ) → flow.ends (arc_table N m) v k ≡ fed_in N m v k
-  ends_fed v i k = at (N.at k) refl
-    where
-      at : (o : Option (Lead D)) → N.at k ≡ o → (is_lead N k && eqb (end_at N (m k) (N.at k)) v) ≡ fed_in N m v k
-      at (Some l) h =
-          ap (λ b. b && eqb (end_at N (m k) (N.at k)) v) (ap stands h)
-          ∙ lies_tells v (end_lies N m k l h) (inner_not_sink v i) (λ e. subst (λ x. has_lead_out N x ≡ true) (sym e) (inner_parts N v i).1)
-          ∙ ap (λ o. head_is v o && (m k).1) (sym h)
-      at None h = ap (λ o. stands o && eqb (end_at N (m k) o) v) h ∙ ap (λ o. head_is v o && (m k).1) (sym h)
+  ends_fed v i k = ⊎_elim
+      (λ l. ap (λ b. b && eqb (end_at N (m k) (N.at k)) v) (ap stands l.1)
+      ∙ lies_tells v (end_lies N m k l.0 l.1) (inner_not_sink v i) (λ e. subst (λ x. has_lead_out N x ≡ true) (sym e) (inner_parts N v i).1)
+      ∙ ap (λ o. head_is v o && (m k).1) (sym l.1))
+      (λ n. ap (λ o. stands o && eqb (end_at N (m k) o) v) n ∙ ap (λ o. head_is v o && (m k).1) (sym n))
+      (lead_or_none N k)
 
   pub begins_draining : (v : ℕ) → is_inner N v ≡ true → (k : ℕ) → flow.begins (arc_table N m) v k ≡ drain_out N m v k
-  begins_draining v i k = at (N.at k) refl
-    where
-      at : (o : Option (Lead D)) → N.at k ≡ o → (is_lead N k && eqb (begin_at N (m k) (N.at k)) v) ≡ drain_out N m v k
-      at (Some l) h =
-          ap (λ b. b && eqb (begin_at N (m k) (N.at k)) v) (ap stands h)
-          ∙ lies_tells v (begin_lies N m k l h) (inner_not_source v i) (λ e. subst (λ x. has_lead_in N x ≡ true) (sym e) (inner_parts N v i).0)
-          ∙ ap (λ o. tail_is v o && (m k).0) (sym h)
-      at None h = ap (λ o. stands o && eqb (begin_at N (m k) o) v) h ∙ ap (λ o. tail_is v o && (m k).0) (sym h)
+  begins_draining v i k = ⊎_elim
+      (λ l. ap (λ b. b && eqb (begin_at N (m k) (N.at k)) v) (ap stands l.1)
+      ∙ lies_tells v (begin_lies N m k l.0 l.1) (inner_not_source v i) (λ e. subst (λ x. has_lead_in N x ≡ true) (sym e) (inner_parts N v i).0)
+      ∙ ap (λ o. tail_is v o && (m k).0) (sym l.1))
+      (λ n. ap (λ o. stands o && eqb (begin_at N (m k) o) v) n ∙ ap (λ o. tail_is v o && (m k).0) (sym n))
+      (lead_or_none N k)
 
   into_is : (f : ℕ → ℕ) (v : ℕ) → is_inner N v ≡ true → load.into (arc_table N m) f v ≡ sum_where N.places (fed_in N m v) f
   into_is f v i = where_same N.places (flow.ends (arc_table N m) v) (fed_in N m v) f (λ k _. ends_fed v i k)
@@ -151,21 +144,19 @@ module _ {D : Type 0} {K : Kind D} {N : Net D} (S : Sound K N) (m : Marks) where
 
   -- the start leads are the arcs that begin at the source, and the end leads those that end at the sink
   pub starts_begin : (k : ℕ) → flow.begins (arc_table N m) 0 k ≡ is_start_lead N m k
-  starts_begin k = at (N.at k) refl
-    where
-      at : (o : Option (Lead D)) → N.at k ≡ o → (is_lead N k && eqb (begin_at N (m k) (N.at k)) 0) ≡ is_start_lead N m k
-      at (Some l) h = ap (λ b. b && eqb (begin_at N (m k) (N.at k)) 0) (ap stands h)
-          ∙ lies_outer (begin_lies N m k l h) (λ o e. let i = lead_in N l.tail o in omega (arith, i.ends, S.upwards i.place i.lead i.holds))
-      at None h = ap (λ o. stands o && eqb (begin_at N (m k) o) 0) h ∙ ap (starts N (m k)) (sym h)
+  starts_begin k = ⊎_elim
+      (λ l. ap (λ b. b && eqb (begin_at N (m k) (N.at k)) 0) (ap stands l.1)
+      ∙ lies_outer (begin_lies N m k l.0 l.1) (λ o e. let i = lead_in N l.0.tail o in omega (arith, i.ends, S.upwards i.place i.lead i.holds)))
+      (λ n. ap (λ o. stands o && eqb (begin_at N (m k) o) 0) n ∙ ap (starts N (m k)) (sym n))
+      (lead_or_none N k)
 
   pub ends_end : (k : ℕ) → flow.ends (arc_table N m) (highest_node N) k ≡ is_end_lead N m k
-  ends_end k = at (N.at k) refl
-    where
-      at : (o : Option (Lead D)) → N.at k ≡ o → (is_lead N k && eqb (end_at N (m k) (N.at k)) (highest_node N)) ≡ is_end_lead N m k
-      at (Some l) h = ap (λ b. b && eqb (end_at N (m k) (N.at k)) (highest_node N)) (ap stands h)
-          ∙ lies_outer (end_lies N m k l h) (λ o e. let i = lead_out N l.head o in
-          omega (arith, i.begins, S.upwards i.place i.lead i.holds, S.inside i.place i.lead i.holds))
-      at None h = ap (λ o. stands o && eqb (end_at N (m k) o) (highest_node N)) h ∙ ap (ends N (m k)) (sym h)
+  ends_end k = ⊎_elim
+      (λ l. ap (λ b. b && eqb (end_at N (m k) (N.at k)) (highest_node N)) (ap stands l.1)
+      ∙ lies_outer (end_lies N m k l.0 l.1) (λ o e. let i = lead_out N l.0.head o in
+      omega (arith, i.begins, S.upwards i.place i.lead i.holds, S.inside i.place i.lead i.holds)))
+      (λ n. ap (λ o. stands o && eqb (end_at N (m k) o) (highest_node N)) n ∙ ap (ends N (m k)) (sym n))
+      (lead_or_none N k)
 
   pub same_total : (f : ℕ → ℕ) → load.total (arc_table N m) f ≡ total_load N m f
   same_total f = where_same N.places (flow.begins (arc_table N m) 0) (is_start_lead N m) f (λ k _. starts_begin k)

@@ -1,6 +1,6 @@
 -- The lower bound: a list of paths that covers every lead gives loads with a total of at most its number of paths.
 use Rattle.std.proofs.Common.{◌≡◌, ℕ, zero, suc, ◌+◌, ◌<◌, ◌≤◌, Bool, true, false, cond, ◌&&◌, ◌||◌, List, [], ◌∷◌, ◌++◌, length, Decides, sym, refl, ap, ◌∙◌, subst, inl, inr, ⊎_elim, append_assoc, arith}
-use Rattle.std.proofs.lemmas.Bool.{cases_Bool, both_ways, and_parts, and_from, eq-eqb}
+use Rattle.std.proofs.lemmas.Bool.{cond_both, false_from_ne_true, both_ways, and_parts, and_from, eq-eqb}
 use Rattle.std.proofs.lemmas.Bool.Decides.{same_from_decides, Decides-like}
 use Rattle.delay.specs.Kind.{Kind, Laws}
 use Rattle.wiring.specs.declared.Lead.{Lead}
@@ -28,11 +28,8 @@ count_one (suc n) Q c u = go (Q n) (c n) refl refl (count_one n Q c u)
     go : (a b : Bool) → Q n ≡ a → c n ≡ b → rest ≡ cond (some_below n (λ k. Q k && c k)) 1 0 →
         rest + cond a (cond b 1 0) 0 ≡ cond ((a && b) || some_below n (λ k. Q k && c k)) 1 0
     go true true p q e =
-        let none : some_below n (λ k. Q k && c k) ≡ false =
-        ⊎_elim
-        (λ x. let s = (some_below_decides (λ k. Q k && c k) n).0 x in let w = and_parts (Q s.0) (c s.0) s.2 in
-        absurd (omega (arith, u s.0 n w.0 w.1 p q, s.1)))
-        (λ x. x) (cases_Bool (some_below n (λ k. Q k && c k))) in
+        let none = false_from_ne_true (some_below n (λ k. Q k && c k))
+        (λ x. let s = (some_below_decides (λ k. Q k && c k) n).0 x in let w = and_parts (Q s.0) (c s.0) s.2 in omega (arith, u s.0 n w.0 w.1 p q, s.1)) in
         let z = ap (λ (b : Bool). cond {A = ℕ} b 1 0) none in
         omega arith
     go true false p q e = omega arith
@@ -162,19 +159,12 @@ module _ {D : Type 0} {K : Kind D} (L : Laws K) {N : Net D} (S : Sound K N) {to 
     one_total : total_load N m (λ k. cond (c k) 1 0) ≤ 1
     one_total =
         let count = count_one N.places (is_start_lead N m) c (λ j k x a y b. one_start L S W Y ((C j).0 a) ((C k).0 b) x y) in
-        let most = at (some_below N.places (λ k. is_start_lead N m k && c k)) in
+        let most = cond_both (some_below N.places (λ k. is_start_lead N m k && c k)) 1 0 (λ x. x ≤ 1) (λ e. omega arith) (λ e. omega arith) in
         omega arith
-      where
-        at : (b : Bool) → cond b 1 0 ≤ 1
-        at true = omega arith
-        at false = omega arith
 
     one_vacant : (k : ℕ) → is_lead N k ≡ false → ◌≡◌ {A = ℕ} (cond (c k) 1 0) 0
-    one_vacant k e = go (c k) refl
-      where
-        go : (b : Bool) → c k ≡ b → ◌≡◌ {A = ℕ} (cond b 1 0) 0
-        go true q = absurd (both_ways (is_lead N k) e (ap stands (on_lead S P ((C k).0 q).through).1))
-        go false q = refl
+    one_vacant k e = ap (λ (b : Bool). cond {A = ℕ} b 1 0)
+        (false_from_ne_true (c k) (λ q. both_ways (is_lead N k) e (ap stands (on_lead S P ((C k).0 q).through).1)))
 
   -- how often each lead is covered by the paths of a list
   record Counted (ps : List (List ℕ)) : Type 0 where

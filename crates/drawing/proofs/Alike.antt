@@ -1,18 +1,19 @@
 -- Two wirings with the same leads at the same places have the same list, even if one has more vacant places.
-use Rattle.std.proofs.Common.{◌≡◌, ℕ, zero, suc, ◌≤◌, Bool, true, false, cond, not, ◌&&◌, ◌||◌, ltb, List, [], ◌∷◌, Some, None, Option, sym, refl, ap, ◌∙◌, subst, ap₂, inl, inr, ⊎_elim, arith}
+use Rattle.std.proofs.Common.{◌≡◌, ℕ, zero, suc, ◌≤◌, Bool, false, cond, not, ◌&&◌, ◌||◌, ltb, List, [], ◌∷◌, Some, None, Option, sym, refl, ap, ◌∙◌, subst, ap₂, inl, inr, ⊎_elim, arith}
 use mathlib.Core.Path.{fun_ext}
 use Rattle.std.proofs.lemmas.Bool.{cases_lt, and_left}
-use Rattle.std.proofs.lemmas.Bool.Decides.{same_from_decides}
+use Rattle.std.specs.Cmp.{both_ways}
 use Rattle.wiring.specs.declared.Lead.{Lead}
 use Rattle.delay.specs.Kind.{Kind, Le}
 use Rattle.wiring.specs.Net.{Net, Holds, stands, tail_is, head_is, is_lead, leaves, enters, has_lead_in, has_lead_out, is_input, is_output, is_inner, is_bare}
-use Rattle.wiring.specs.Paths.{Run, stay, along, delay_in, delay_of}
+use Rattle.wiring.specs.Paths.{delay_in, delay_of}
 use Rattle.wiring.specs.Lengths.{To, From, Fed, Drains}
 use Rattle.wiring.specs.Lengths.{Marks, Types}
 use Rattle.wiring.specs.Loads.{starts, ends, is_start_lead, is_end_lead, sum_below, sum_where, Loads, total_load, Best, drain_out, fed_in, Balanced}
 use Rattle.wiring.specs.Lists.{Lowest, lowered, tail_in, head_in, tail_at, head_node, begins, goes, Drawn, Draws, Walk, onwards, backwards, forwards}
 use Rattle.wiring.proofs.Ends.{lead_in, lead_out, has_in, has_out}
 use Rattle.wiring.proofs.Types.{none_at}
+use Rattle.wiring.proofs.Turning.{run_same}
 use Rattle.drawing.specs.Claims.{SameLeadsSameList}
 
 sum_past : (m n : ℕ) (g : ℕ → ℕ) → n ≤ m → ((k : ℕ) → n ≤ k → g k ≡ 0) → sum_below m g ≡ sum_below n g
@@ -55,10 +56,6 @@ module _ {D : Type 0} {N M : Net D} (A : Alike N M) where
 
   holds_same : {k : ℕ} {l : Lead D} → Holds N k l → Holds M k l
   holds_same {k} h = sym (A.same k) ∙ h
-
-  run_same : {u v : ℕ} {ks : List ℕ} → Run N u v ks → Run M u v ks
-  run_same (stay e) = stay e
-  run_same (along l h t r) = along l (holds_same h) t (run_same r)
 
   delay_same : (K : Kind D) (ks : List ℕ) → delay_of K N ks ≡ delay_of K M ks
   delay_same K [] = refl
@@ -103,9 +100,9 @@ module _ {D : Type 0} {N M : Net D} (A : Alike N M) (K : Kind D) where
     source = t.source;
     leads = t.leads;
     from_input = sym (input_same A t.source) ∙ t.from_input;
-    run = run_same A t.run;
+    run = run_same A.same t.run;
     delay = sym (delay_same A K t.leads) ∙ t.delay;
-    longest = λ u ks i r. subst (λ (y : D). Le K y x) (delay_same A K ks) (t.longest u ks (input_same A u ∙ i) (run_same (back A) r));
+    longest = λ u ks i r. subst (λ (y : D). Le K y x) (delay_same A K ks) (t.longest u ks (input_same A u ∙ i) (run_same (back A).same r));
   })
   to_same {v} (inr t) = inr (sym (bare_same A v) ∙ t.0, t.1)
 
@@ -114,9 +111,9 @@ module _ {D : Type 0} {N M : Net D} (A : Alike N M) (K : Kind D) where
     sink = t.sink;
     leads = t.leads;
     to_output = sym (output_same A t.sink) ∙ t.to_output;
-    run = run_same A t.run;
+    run = run_same A.same t.run;
     delay = sym (delay_same A K t.leads) ∙ t.delay;
-    longest = λ w ks o r. subst (λ (y : D). Le K y x) (delay_same A K ks) (t.longest w ks (output_same A w ∙ o) (run_same (back A) r));
+    longest = λ w ks o r. subst (λ (y : D). Le K y x) (delay_same A K ks) (t.longest w ks (output_same A w ∙ o) (run_same (back A).same r));
   })
   from_same {v} (inr t) = inr (sym (bare_same A v) ∙ t.0, t.1)
 
@@ -211,16 +208,12 @@ module _ {D : Type 0} {N M : Net D} (A : Alike N M) (m : Marks) where
 alike : {D : Type 0} {N M : Net D} → ((k : ℕ) → N.at k ≡ M.at k) → Alike N M
 alike {N = N} {M = M} e = record {
   same = e;
-  ins = λ v. same_from_decides {P = has_lead_in M v ≡ true} (has_lead_in N v) (has_lead_in M v) (
-    (λ t. let i = lead_in N v t in has_in M i.place i.lead v (sym (e i.place) ∙ i.holds) i.ends),
-    λ t. let i = lead_in M v t in has_in N i.place i.lead v (e i.place ∙ i.holds) i.ends,
-  )
-      ((λ t. t), λ t. t);
-  outs = λ v. same_from_decides {P = has_lead_out M v ≡ true} (has_lead_out N v) (has_lead_out M v) (
-    (λ t. let i = lead_out N v t in has_out M i.place i.lead v (sym (e i.place) ∙ i.holds) i.begins),
-    λ t. let i = lead_out M v t in has_out N i.place i.lead v (e i.place ∙ i.holds) i.begins,
-  )
-      ((λ t. t), λ t. t);
+  ins = λ v. both_ways (has_lead_in N v) (has_lead_in M v)
+      (λ t. let i = lead_in N v t in has_in M i.place i.lead v (sym (e i.place) ∙ i.holds) i.ends)
+      (λ t. let i = lead_in M v t in has_in N i.place i.lead v (e i.place ∙ i.holds) i.ends);
+  outs = λ v. both_ways (has_lead_out N v) (has_lead_out M v)
+      (λ t. let i = lead_out N v t in has_out M i.place i.lead v (sym (e i.place) ∙ i.holds) i.begins)
+      (λ t. let i = lead_out M v t in has_out N i.place i.lead v (e i.place ∙ i.holds) i.begins);
   sums = λ P f h.
       let none : (k : ℕ) → N.at k ≡ None → cond (P k) (f k) 0 ≡ 0 = λ k z. ap (λ (b : Bool). cond b (f k) 0) (h k (ap stands z)) in
       ⊎_elim

@@ -1,6 +1,6 @@
 -- From loads the drawing is never stuck and ends, with as many paths as the total, and covers every lead.
-use Rattle.std.proofs.Common.{◌≡◌, ℕ, zero, suc, ◌-◌, ◌<◌, ◌≤◌, true, false, not, List, [], ◌∷◌, ◌++◌, reverse, length, sym, refl, ap, ◌∙◌, subst, inl, inr, ⊎_elim, arith}
-use Rattle.std.proofs.lemmas.Bool.{cases_lt, both_ways, and_cases, not-false}
+use Rattle.std.proofs.Common.{◌≡◌, ℕ, zero, suc, ◌-◌, ◌<◌, ◌≤◌, true, false, List, [], ◌∷◌, ◌++◌, reverse, length, sym, refl, ap, ◌∙◌, subst, inl, inr, ⊎_elim, arith}
+use Rattle.std.proofs.lemmas.Bool.{cases_lt, not-false}
 use Rattle.delay.specs.Kind.{Kind, Laws}
 use Rattle.wiring.specs.declared.Lead.{Lead}
 use Rattle.wiring.specs.Net.{Net, Holds, Sound, stands, has_lead_in, has_lead_out, is_input, is_output}
@@ -22,7 +22,7 @@ module _ {D : Type 0} {K : Kind D} (L : Laws K) {N : Net D} (S : Sound K N) {to 
   -- into a node with leads out that is no input there is a lowest fed lead; it comes from a lower node with leads out
   behind_step : (v : ℕ) → has_lead_out N v ≡ true → is_input N v ≡ false → (j : ℕ) × Lowest (fed_in N m v) j × (has_lead_out N (tail_at N j) ≡ true) × (tail_at N j < v)
   behind_step v o e =
-      let i : has_lead_in N v ≡ true = ⊎_elim (λ q. absurd (both_ways (has_lead_out N v) q o)) (λ q. not-false (has_lead_in N v) q) (and_cases (has_lead_out N v) (not (has_lead_in N v)) e) in
+      let i : has_lead_in N v ≡ true = not-false (has_lead_in N v) (rw o at e) in
       let d = (local_to L S to T.to_is).met v i in
       let f = (Y.fed d.place (ap stands d.holds)).1 (sums_fed L S to T.to_is d.place d.lead d.holds (d.sums ∙ ap to (sym d.ends))) in
       let w = lowest (fed_in N m v) d.place (in_from N m v d.place (record { lead = d.lead; holds = d.holds; ends = d.ends; fed = f })) in
@@ -34,7 +34,7 @@ module _ {D : Type 0} {K : Kind D} (L : Laws K) {N : Net D} (S : Sound K N) {to 
   ahead_step : (v : ℕ) → has_lead_in N v ≡ true → is_output N v ≡ false →
       (j : ℕ) × Lowest (drain_out N m v) j × (has_lead_in N (head_node N j) ≡ true) × (N.nodes - head_node N j < N.nodes - v)
   ahead_step v i e =
-      let o : has_lead_out N v ≡ true = ⊎_elim (λ q. absurd (both_ways (has_lead_in N v) q i)) (λ q. not-false (has_lead_out N v) q) (and_cases (has_lead_in N v) (not (has_lead_out N v)) e) in
+      let o : has_lead_out N v ≡ true = not-false (has_lead_out N v) (rw i at e) in
       let d = (local_from L S from T.from_is).met v o in
       let f = (Y.drains d.place (ap stands d.holds)).1
       (sums_drains L S from T.from_is d.place d.lead d.holds (d.sums ∙ ap from (sym d.begins))) in

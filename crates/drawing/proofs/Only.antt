@@ -1,5 +1,5 @@
 -- One list only: the types, the best loads and the drawing of a wiring have at most one result.
-use Rattle.std.proofs.Common.{◌≡◌, ℕ, List, [], ◌∷◌, ◌++◌, reverse, sym, refl, ◌∙◌, subst, arith}
+use Rattle.std.proofs.Common.{◌≡◌, ℕ, List, [], ◌∷◌, ◌++◌, reverse, sym, refl, ◌∙◌, subst, ap₂, arith}
 use Rattle.delay.specs.Kind.{Kind}
 use Rattle.wiring.specs.Net.{Net}
 use Rattle.wiring.specs.Lengths.{Marks}
@@ -8,7 +8,7 @@ use Rattle.wiring.specs.Lists.{lowered, tail_at, head_node, Drawn, Draws, ListOf
 use Rattle.wiring.proofs.Types.{types_same}
 use Rattle.flow.proofs.Best.{best_one}
 use Rattle.flow.proofs.Exist.{lowest_one}
-use Rattle.drawing.proofs.Walks.{cons_same, walk_one}
+use Rattle.drawing.proofs.Walks.{walk_one}
 use Rattle.drawing.proofs.Parts.{first_parts}
 
 module _ {D : Type 0} (N : Net D) (m : Marks) where
@@ -22,7 +22,7 @@ module _ {D : Type 0} (N : Net D) (m : Marks) where
       (subst (λ (x : ℕ). Walk (backwards N m) (tail_at N x) A.behind A.input) e A.back) B.back).0 in
       let a = (walk_one (forwards N m) (head_node N B.stop) A.ahead B.ahead
       (subst (λ (x : ℕ). Walk (forwards N m) (head_node N x) A.ahead A.output) r.1 A.fore) B.fore).0 in
-      let same : c ≡ d = A.core_is ∙ cons_same e r.0 ∙ sym B.core_is in
+      let same : c ≡ d = A.core_is ∙ ap₂ ◌∷◌ e r.0 ∙ sym B.core_is in
       (same, A.path_is ∙ (λ i. reverse (b i) ++ (same i ++ a i)) ∙ sym B.path_is)
 
   -- while a path is drawn, something is left
@@ -36,7 +36,7 @@ module _ {D : Type 0} (N : Net D) (m : Marks) where
   draws_one left (p ∷ ps) (q ∷ qs) a b =
       let e = drawn_one a.1 b.1 in
       let rest = draws_one (lowered left b.0) ps qs (subst (λ (c : List ℕ). Draws N m (lowered left c) ps) e.0 a.2) b.2 in
-      λ i. e.1 i ∷ rest i
+      ap₂ ◌∷◌ e.1 rest
 
 -- a wiring and a kind have one list only
 pub list_one : {D : Type 0} {K : Kind D} {N : Net D} {ps qs : List (List ℕ)} → ListOf K N ps → ListOf K N qs → ps ≡ qs

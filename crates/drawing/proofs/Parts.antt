@@ -1,12 +1,12 @@
 -- What the tests of the drawing say of a place: its lead, its marks and what is left there.
-use Rattle.std.proofs.Common.{◌≡◌, ℕ, ◌≤◌, true, false, ltb, Some, None, Option, refl, ap, ◌∙◌}
+use Rattle.std.proofs.Common.{◌≡◌, ℕ, ◌≤◌, true, ltb, ap, ◌∙◌, ⊎_elim}
 use Rattle.std.proofs.lemmas.Bool.{both_ways, and_parts, and_from, ltb-true, eq-eqb}
 use Rattle.wiring.specs.declared.Lead.{Lead}
 use Rattle.wiring.specs.Net.{Net, Holds, tail_is, head_is, leaves, enters}
 use Rattle.wiring.specs.Lengths.{Marks}
 use Rattle.wiring.specs.Loads.{starts, is_start_lead, fed_in, drain_out}
 use Rattle.wiring.specs.Lists.{Lowest, tail_in, head_in, tail_at, head_node, begins, goes}
-use Rattle.wiring.proofs.Ends.{head_from, tail_from}
+use Rattle.wiring.proofs.Ends.{lead_or_none, head_from, tail_from}
 
 -- k is a draining lead out of v; a fed lead into v
 pub record Out {D : Type 0} (N : Net D) (m : Marks) (v k : ℕ) : Type 0 where
@@ -45,11 +45,7 @@ module _ {D : Type 0} (N : Net D) (m : Marks) where
 
   -- a start lead is a lead
   start_lead : (k : ℕ) → is_start_lead N m k ≡ true → (l : Lead D) × Holds N k l
-  start_lead k e = go (N.at k) refl e
-    where
-      go : (o : Option (Lead D)) → N.at k ≡ o → starts N (m k) o ≡ true → (l : Lead D) × Holds N k l
-      go (Some l) h t = (l, h)
-      go None h t = absurd (both_ways false refl t)
+  start_lead k e = ⊎_elim (λ h. h) (λ n. absurd (both_ways (is_start_lead N m k) (ap (starts N (m k)) n) e)) (lead_or_none N k)
 
   -- a core begins with a start lead that has something left
   pub record First (left : ℕ → ℕ) (k : ℕ) : Type 0 where

@@ -1,7 +1,12 @@
 -- The definitions give every row of the table of small wirings: each row has a certificate, and one test that computes goes over all of them.
-use Rattle.std.proofs.Common.{◌≡◌, ℕ, Bool, true, false, not, ◌&&◌, ◌||◌, eqb, List, [], ◌∷◌, length, get_or, sym, refl}
+use Rattle.std.proofs.Common.{◌≡◌, ℕ, Bool, true, false, nat_eq, ◌&&◌, ◌||◌, eqb, List, [], ◌∷◌, length, get_or, refl, ap₂}
+use Rattle.std.proofs.Math.Bool.{beq}
 use Rattle.std.specs.List.{AllByRecursion}
-use Rattle.std.proofs.lemmas.Bool.{both_ways, and_parts, eqb-true}
+use Rattle.std.specs.Cmp.{booleans_Decides}
+use Rattle.std.specs.Cmp.Lexicographic.{pointwise}
+use Rattle.std.proofs.lemmas.Bool.Decides.{Decides-eqb}
+use Rattle.std.proofs.lemmas.Slice.Eq.{slice_eq-Decides}
+use Rattle.std.proofs.lemmas.Bool.{both_ways, and_parts}
 use Rattle.delay.specs.Kind.{Kind, Laws}
 use Rattle.delay.specs.Delivered.{picosecond_kind, contact_kind, early_kind}
 use Rattle.delay.specs.DeliveredLaws.{picosecond_laws, contact_laws, early_laws}
@@ -12,36 +17,13 @@ use Rattle.drawing.specs.Tests.{Drawing, Certificate, paths_of, worked_marks, li
 use Rattle.drawing.specs.Rows.{Reading, late, early, contact, Row, wired, Gives, Given, rows, RowsAreGiven}
 use Rattle.drawing.proofs.Certify.{list_by_test_lem}
 
-abbrev same_words : List ℕ → List ℕ → Bool
-same_words [] [] = true
-same_words [] (y ∷ ys) = false
-same_words (x ∷ xs) [] = false
-same_words (x ∷ xs) (y ∷ ys) = eqb x y && same_words xs ys
-
-words_by_test : (xs ys : List ℕ) → same_words xs ys ≡ true → xs ≡ ys
-words_by_test [] [] e = refl
-words_by_test [] (y ∷ ys) e = absurd (both_ways false refl e)
-words_by_test (x ∷ xs) [] e = absurd (both_ways false refl e)
-words_by_test (x ∷ xs) (y ∷ ys) e =
-    let p = and_parts (eqb x y) (same_words xs ys) e in
-    let a = eqb-true x y p.0 in let b = words_by_test xs ys p.1 in λ i. a i ∷ b i
-
-abbrev same : Bool → Bool → Bool
-same true b = b
-same false b = not b
-
-same_says : (a b : Bool) → same a b ≡ true → a ≡ b
-same_says true b e = sym e
-same_says false true e = e
-same_says false false e = refl
-
 abbrev same_type : Bool × Bool → Bool × Bool → Bool
-same_type p q = same p.0 q.0 && same p.1 q.1
+same_type p q = beq p.0 q.0 && beq p.1 q.1
 
 type_says : (p q : Bool × Bool) → same_type p q ≡ true → p ≡ q
 type_says p q e =
-    let h = and_parts (same p.0 q.0) (same p.1 q.1) e in
-    let a = same_says p.0 q.0 h.0 in let b = same_says p.1 q.1 h.1 in λ i. (a i, b i)
+    let h = and_parts (beq p.0 q.0) (beq p.1 q.1) e in
+    ap₂ (λ (a b : Bool). (a, b)) ((booleans_Decides p.0 q.0).0 h.0) ((booleans_Decides p.1 q.1).0 h.1)
 
 module _ {D : Type 0} (K : Kind D) (r : Row) (c : Certificate) where
   abbrev types_test : Bool
@@ -49,17 +31,17 @@ module _ {D : Type 0} (K : Kind D) (r : Row) (c : Certificate) where
 
   -- the certificate shows the list of the row's wiring, with the row's words and types
   abbrev row_test : Bool
-  row_test = list_test K (wired K r) c && (same_words (words (paths_of c)) r.words && types_test)
+  row_test = list_test K (wired K r) c && (pointwise nat_eq (words (paths_of c)) r.words && types_test)
 
   row_by_test : Laws K → row_test ≡ true → Gives K r
   unfolding list_by_test_lem
   row_by_test L e =
-      let p = and_parts (list_test K (wired K r) c) (same_words (words (paths_of c)) r.words && types_test) e in
-      let q = and_parts (same_words (words (paths_of c)) r.words) types_test p.1 in
+      let p = and_parts (list_test K (wired K r) c) (pointwise nat_eq (words (paths_of c)) r.words && types_test) e in
+      let q = and_parts (pointwise nat_eq (words (paths_of c)) r.words) types_test p.1 in
       record {
         paths = paths_of c;
         list = list_by_test_lem L (wired K r) c p.0;
-        words_are = words_by_test (words (paths_of c)) r.words q.0;
+        words_are = (slice_eq-Decides Decides-eqb (words (paths_of c)) r.words _ refl).0 q.0;
         types_are = λ k h. type_says (worked_marks K (wired K r) k) (get_or r.types k (false, false))
             (all_below_at (length r.types) (λ j. same_type (worked_marks K (wired K r) j) (get_or r.types j (false, false))) q.1 k h);
       }

@@ -1,11 +1,8 @@
 -- Walks by lowest leads: there is one, and one only.
-use Rattle.std.proofs.Common.{◌≡◌, ℕ, zero, suc, ◌<◌, false, List, [], ◌∷◌, sym, refl, ◌∙◌, subst, ⊎_elim, arith}
+use Rattle.std.proofs.Common.{◌≡◌, ℕ, zero, suc, ◌<◌, false, List, [], ◌∷◌, sym, refl, ◌∙◌, subst, ap₂, ⊎_elim, arith}
 use Rattle.std.proofs.lemmas.Bool.{cases_Bool, both_ways}
 use Rattle.wiring.specs.Lists.{Lowest, Walker, Walk}
 use Rattle.flow.proofs.Exist.{lowest_one}
-
-pub cons_same : {j k : ℕ} {js ks : List ℕ} → j ≡ k → js ≡ ks → j ∷ js ≡ k ∷ ks
-cons_same p q = λ i. p i ∷ q i
 
 pub walk_one : (X : Walker) (v : ℕ) {a b : ℕ} (js is : List ℕ) → Walk X v js a → Walk X v is b → (js ≡ is) × (a ≡ b)
 walk_one X v [] [] x y = (refl, sym x.1 ∙ y.1)
@@ -14,7 +11,7 @@ walk_one X v (j ∷ js) [] x y = absurd (both_ways (X.done v) x.0 y.0)
 walk_one X v {a} (j ∷ js) (i ∷ is) x y =
     let e : j ≡ i = lowest_one x.1 y.1 in
     let r = walk_one X (X.next i) js is (subst (λ (k : ℕ). Walk X (X.next k) js a) e x.2) y.2 in
-    (cons_same e r.0, r.1)
+    (ap₂ ◌∷◌ e r.0, r.1)
 
 -- where a step is always possible, and brings one nearer, the walk ends
 module _ (X : Walker) (On : ℕ → Type 0) (rank : ℕ → ℕ)

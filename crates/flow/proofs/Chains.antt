@@ -1,7 +1,8 @@
 -- One more and one less along a chain, and how loads go on.
-use Rattle.std.proofs.Common.{◌≡◌, ℕ, ◌+◌, ◌-◌, ◌≤◌, Bool, true, cond, eqb, List, [], ◌∷◌, sym, refl, ap, ◌∙◌, ⊎_elim, arith}
+use Rattle.std.proofs.Common.{◌≡◌, ℕ, ◌+◌, ◌-◌, ◌≤◌, true, eqb, List, [], ◌∷◌, sym, refl, arith}
 use Rattle.std.specs.List.{AllByRecursion}
-use Rattle.std.proofs.lemmas.Bool.{cases_eq, eqb-true, eq-eqb, ne_eqb, and_from, and_parts}
+use Rattle.std.proofs.lemmas.Bool.{eqb-true, eq-eqb, and_from, and_parts}
+use Rattle.std.proofs.lemmas.Bool.Decides.{nat_tests}
 use Rattle.wiring.specs.Lists.{count_on, lowered}
 use Rattle.flow.specs.Table.{Table, Sound, begins, ends}
 use Rattle.flow.specs.Loads.{out_of, into, total, Balanced}
@@ -21,12 +22,9 @@ chain_along : (c : List ℕ) → AllByRecursion (λ s. s.along ≡ true) (steps_
 chain_along [] = tt
 chain_along (k ∷ ks) = (refl, chain_along ks)
 
-eqb_turn : (a b : ℕ) → eqb a b ≡ eqb b a
-eqb_turn a b = ⊎_elim (λ e. eq-eqb a b e ∙ sym (eq-eqb b a (sym e))) (λ n. ne_eqb a b n ∙ sym (ne_eqb b a (λ e. n (sym e)))) (cases_eq a b)
-
 pub chain_count : (c : List ℕ) (k : ℕ) → along_count (steps_along c) k ≡ count_on k c
 chain_count [] k = refl
-chain_count (j ∷ js) k = let rest = chain_count js k in let turn = ap (λ (b : Bool). cond {A = ℕ} b 1 0) (eqb_turn j k) in omega arith
+chain_count (j ∷ js) k = let turn : eqb j k ≡ eqb k j = grind (arith, nat_tests) in rw turn (omega (arith, chain_count js k))
 
 -- f and g differ by a chain: one more along it
 chain_shifted : (c : List ℕ) (f g : ℕ → ℕ) → ((k : ℕ) → g k ≡ f k + count_on k c) → Shifted 1 (steps_along c) f g

@@ -1,6 +1,6 @@
 -- The cut identity, and what follows from it.
 use Rattle.std.proofs.Common.{◌≡◌, ℕ, suc, ◌+◌, ◌<◌, ◌≤◌, Bool, true, false, cond, not, ◌&&◌, eqb, leb, sym, refl, ap, ◌∙◌, ⊎_elim, arith}
-use Rattle.std.proofs.lemmas.Bool.{ne_eqb, eqb-true, eqb-false, cases_lt, both_ways, false≢true, le-leb, lt-leb, leb-true}
+use Rattle.std.proofs.lemmas.Bool.{ne_eqb, eqb-true, eqb-false, cases_lt, both_ways, false≢true, le-leb, lt-leb, leb-true, cond_both}
 use Rattle.wiring.specs.Loads.{sum_where}
 use Rattle.flow.specs.Table.{Table, Sound, leaving, entering}
 use Rattle.flow.specs.Loads.{out_of, into, total, Balanced, leave, enter}
@@ -115,12 +115,8 @@ at_most_total T S f B k a =
     let leaves = leaving_term T R k (f k) a (le-leb (T.begin k) (T.begin k) (omega arith)) (lt-leb (T.end k) (T.begin k) (S.up k a)) in
     let none = sum_none T.places (λ j. cond (entering T R j) (f j) 0)
     (λ j l. not_entering_term T R j (f j) (λ b e. le-leb (T.begin j) (T.begin k) (omega (arith, S.up j b, leb-true (T.end j) (T.begin k) e)))) in
-    let most = less (R T.source) (total T f) in
+    let most : cond (R T.source) (total T f) 0 ≤ total T f = cond_both (R T.source) (total T f) 0 (λ x. x ≤ total T f) (λ e. omega arith) (λ e. omega arith) in
     omega arith
   where
     R : ℕ → Bool
     R v = leb v (T.begin k)
-
-    less : (b : Bool) (x : ℕ) → cond b x 0 ≤ x
-    less true x = omega arith
-    less false x = omega arith

@@ -6,6 +6,7 @@ use Rattle.flow.specs.Table.{Table, Sound, begins, ends, Joined}
 use Rattle.flow.specs.Loads.{Balanced, Loads}
 use Rattle.flow.specs.Chains.{Chain, steps_along, raised}
 use Rattle.flow.proofs.Sums.{where_zero}
+use Rattle.flow.proofs.Cuts.{arc_inside}
 use Rattle.flow.proofs.Shifts.{vacant_not_counted}
 use Rattle.flow.proofs.Chains.{chain_way, chain_count, raised_balanced}
 
@@ -99,7 +100,7 @@ begun_raised T S f n B c C o =
 pub begun_all : (T : Table) → Sound T → (f : ℕ → ℕ) → Begun T f T.places → Loads T f
 begun_all T S f B =
     record {
-      arcs = λ k a. ⊎_elim (λ l. B.arcs k l a) (λ l. absurd (both_ways (T.arc k) (S.past k l) a)) (cases_lt k T.places);
+      arcs = λ k a. B.arcs k (arc_inside T S k a) a;
       vacant = B.vacant;
       balanced = B.balanced;
     }

@@ -1,6 +1,7 @@
 -- The search, step by step; and from it, that there are best loads.
 use Rattle.std.proofs.Common.{◌≡◌, ℕ, zero, suc, ◌+◌, ◌<◌, ◌≤◌, Bool, true, false, cond, not, ◌&&◌, ◌||◌, eqb, leb, ◌⊎◌, List, sym, refl, ap, ◌∙◌, subst, inl, inr, ⊎_elim, arith}
-use Rattle.std.proofs.lemmas.Bool.{cases_Bool, cases_eq, cases_lt, both_ways, eqb-true, eq-eqb, ne_eqb, le-leb, leb-true, and_from, and_parts, not_from_false, not-true, or_cases}
+use Rattle.std.proofs.lemmas.Bool.{cases_Bool, cases_eq, cases_lt, both_ways, eqb-true, eq-eqb, ne_eqb, le-leb, leb-true, and_parts, not-true, not-false, or_cases}
+use Rattle.std.proofs.Math.Bool.{and-true}
 use Rattle.flow.specs.Table.{Table, Sound, Joined}
 use Rattle.flow.specs.Loads.{total, Loads, Best, FirstTo, Least, Tight}
 use Rattle.flow.specs.Ways.{Step, step_from, step_to, shifted, back}
@@ -129,11 +130,7 @@ opens_or_shut T S f low R = ⊎_elim
         )
 
     closed : (p q r s t : Bool) → ((p && q) && ((r && not s) && t)) ≡ false → p ≡ true → q ≡ true → r ≡ true → t ≡ true → s ≡ true
-    closed p q r s t e a b c d = ⊎_elim
-        (λ x. x)
-        (λ x. absurd (both_ways ((p && q) && ((r && not s) && t)) e (and_from (p && q) ((r && not s) && t) (and_from p q a b)
-        (and_from (r && not s) t (and_from r (not s) c (not_from_false s x)) d))))
-        (cases_Bool s)
+    closed p q r s t e a b c d = not-false s (rw (a, b, c, d, and-true) at e)
 
     shut : ((j : ℕ) → j < T.places → step_test T f low R true j ≡ false) → ((j : ℕ) → j < T.places → step_test T f low R false j ≡ false) → Shut T f low R
     shut none nor = record {

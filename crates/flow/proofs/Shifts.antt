@@ -1,12 +1,16 @@
 -- When shifted loads are loads.
-use Rattle.std.proofs.Common.{◌≡◌, ℕ, ◌+◌, ◌*◌, ◌<◌, ◌≤◌, Bool, true, false, cond, not, ◌&&◌, eqb, List, [], ◌∷◌, sym, refl, ap, ◌∙◌, subst, ⊎_elim, arith}
+use Rattle.std.proofs.Common.{◌≡◌, ℕ, ◌+◌, ◌*◌, ◌<◌, ◌≤◌, Bool, true, false, cond, not, ◌&&◌, eqb, ◌⊎◌, List, [], ◌∷◌, sym, refl, ap, ◌∙◌, subst, inl, inr, ⊎_elim, arith}
 use Rattle.std.specs.List.{AllByRecursion}
-use Rattle.std.proofs.lemmas.Bool.{cases_order, both_ways, eqb-true, eq-eqb, ne_eqb}
-use Rattle.std.proofs.ByRecursion.{All-weaker}
+use Rattle.std.proofs.lemmas.Bool.{cases_lt, both_ways, eqb-true, eq-eqb, ne_eqb}
+use Rattle.std.proofs.lemmas.List.Elements.{All-from_recursion, recursion_from_All, All-weaker}
 use Rattle.flow.specs.Table.{Table, Sound}
 use Rattle.flow.specs.Loads.{total, Loads, Balanced}
 use Rattle.flow.specs.Ways.{Step, Way, step_from, step_to, along_count, against_count, Shifted, shifted, Once, Slack, Falls, back}
 use Rattle.flow.proofs.Ways.{shift_round, shift_down}
+
+-- what holds of each step, and so does what follows from it
+pub each_weaker : (P Q : Step → Type 0) → ((s : Step) → P s → Q s) → (ss : List Step) → AllByRecursion P ss → AllByRecursion Q ss
+each_weaker P Q f ss h = recursion_from_All Q ss (All-weaker P Q f ss (All-from_recursion P ss h))
 
 -- a way steps on arcs only
 way_arcs : (T : Table) (u v : ℕ) (ss : List Step) → Way T u ss v → AllByRecursion (λ s. T.arc s.place ≡ true) ss
@@ -28,7 +32,7 @@ not_counted (s ∷ ss) k h =
 -- a vacant place is not counted on a way
 pub vacant_not_counted : (T : Table) (u v : ℕ) (ss : List Step) → Way T u ss v → (k : ℕ) → T.arc k ≡ false → (along_count ss k ≡ 0) × (against_count ss k ≡ 0)
 vacant_not_counted T u v ss W k e =
-    not_counted ss k (All-weaker (λ s. T.arc s.place ≡ true) (λ s. s.place ≡ k → ⊥)
+    not_counted ss k (each_weaker (λ s. T.arc s.place ≡ true) (λ s. s.place ≡ k → ⊥)
     (λ s a q. both_ways (T.arc k) e (subst (λ (x : ℕ). T.arc x ≡ true) q a)) ss (way_arcs T u v ss W))
 
 -- where a step goes against k there is slack
@@ -42,47 +46,31 @@ slack_at d f (s ∷ ss) h k l = go s.along (eqb s.place k) refl refl l (slack_at
     go false true p q m later = subst (λ (x : ℕ). d + 1 ≤ f x) (eqb-true s.place k q) (h.0 p)
     go false false p q m later = later (omega arith)
 
+-- so d times the steps against k leaves at least 1 there, if there was something
+slack_left : (d : ℕ) (ss : List Step) (f : ℕ → ℕ) → Once ss → AllByRecursion (Slack d f) ss → (k : ℕ) →
+    (d * against_count ss k ≡ 0) ⊎ (d * against_count ss k + 1 ≤ f k)
+slack_left d ss f o a k = ⊎_elim
+    (λ (m : against_count ss k < 1). let none : against_count ss k ≡ 0 = omega arith in inl (rw none (omega arith)))
+    (λ (m : 1 ≤ against_count ss k). let one : against_count ss k ≡ 1 = omega (arith, o k) in inr (rw one (omega (arith, slack_at d f ss a k m))))
+    (cases_lt (against_count ss k) 1)
+
 -- loads stay at least 1
 shift_arcs : (d : ℕ) (ss : List Step) (f g : ℕ → ℕ) → Shifted d ss f g → Once ss → AllByRecursion (Slack d f) ss → (k : ℕ) → 1 ≤ f k → 1 ≤ g k
-shift_arcs d ss f g h o a k l = ⊎_elim one (⊎_elim none more) (cases_order (against_count ss k) 1)
-  where
-    one : against_count ss k ≡ 1 → 1 ≤ g k
-    one e =
-        let was = slack_at d f ss a k (omega arith) in
-        let less = ap (λ (x : ℕ). d * x) e in
-        omega (arith, h k)
+shift_arcs d ss f g h o a k l = ⊎_elim (λ e. omega (arith, h k)) (λ m. omega (arith, h k)) (slack_left d ss f o a k)
 
-    none : against_count ss k < 1 → 1 ≤ g k
-    none m =
-        let zero_there : against_count ss k ≡ 0 = omega arith in
-        let less = ap (λ (x : ℕ). d * x) zero_there in
-        omega (arith, h k)
+-- a place that is not counted keeps its load, and so does one that is not stepped
+counted_keeps : (d : ℕ) (ss : List Step) (f g : ℕ → ℕ) → Shifted d ss f g → (k : ℕ) → (along_count ss k ≡ 0) × (against_count ss k ≡ 0) → g k ≡ f k
+counted_keeps d ss f g h k nowhere = omega (arith, h k, ap (λ (x : ℕ). d * x) nowhere.0, ap (λ (x : ℕ). d * x) nowhere.1)
 
-    more : 1 < against_count ss k → 1 ≤ g k
-    more m = omega (arith, o k)
-
--- vacant places keep nothing
-shift_vacant : (T : Table) (u v d : ℕ) (ss : List Step) → Way T u ss v → (f g : ℕ → ℕ) → Shifted d ss f g → (k : ℕ) → T.arc k ≡ false → f k ≡ 0 → g k ≡ 0
-shift_vacant T u v d ss W f g h k e z =
-    let nowhere = vacant_not_counted T u v ss W k e in
-    let more = ap (λ (x : ℕ). d * x) nowhere.0 in
-    let less = ap (λ (x : ℕ). d * x) nowhere.1 in
-    omega (arith, h k)
-
--- a place that is not stepped keeps its load
 pub shift_keeps : (d : ℕ) (ss : List Step) (f g : ℕ → ℕ) → Shifted d ss f g → (k : ℕ) → AllByRecursion (λ s. s.place ≡ k → ⊥) ss → g k ≡ f k
-shift_keeps d ss f g h k a =
-    let nowhere = not_counted ss k a in
-    let more = ap (λ (x : ℕ). d * x) nowhere.0 in
-    let less = ap (λ (x : ℕ). d * x) nowhere.1 in
-    omega (arith, h k)
+shift_keeps d ss f g h k a = counted_keeps d ss f g h k (not_counted ss k a)
 
 -- with slack, what is shifted stays loads, if it stays balanced
 loads_shifted : (T : Table) (u v d : ℕ) (ss : List Step) → Way T u ss v → (f g : ℕ → ℕ) → Shifted d ss f g → Once ss → AllByRecursion (Slack d f) ss →
     Loads T f → Balanced T g → Loads T g
 loads_shifted T u v d ss W f g h o a L B = record {
   arcs = λ k e. shift_arcs d ss f g h o a k (L.arcs k e);
-  vacant = λ k e. shift_vacant T u v d ss W f g h k e (L.vacant k e);
+  vacant = λ k e. counted_keeps d ss f g h k (vacant_not_counted T u v ss W k e) ∙ L.vacant k e;
   balanced = B;
 }
 
@@ -98,12 +86,16 @@ pub loads_down : (T : Table) → Sound T → (d : ℕ) (ss : List Step) → Way 
 loads_down T S d ss W f g h o a L =
     let both = shift_down T S d ss W f g h L.balanced in (loads_shifted T T.sink T.source d ss W f g h o a L both.0, both.1)
 
+-- steps over places above k step neither on k nor below it
+none_upto : (k j : ℕ) (ss : List Step) → j ≤ k → AllByRecursion (λ s. k < s.place) ss → AllByRecursion (λ s. s.place ≡ j → ⊥) ss
+none_upto k j ss i = each_weaker (λ s. k < s.place) (λ s. s.place ≡ j → ⊥) (λ s m e. omega arith) ss
+
 -- one more step, below all the others
 pub once_more : (k : ℕ) (ss : List Step) → Once ss → AllByRecursion (λ s. k < s.place) ss → Once (back k ∷ ss)
 once_more k ss o above j = go (eqb k j) refl
   where
     nowhere : (along_count ss k ≡ 0) × (against_count ss k ≡ 0)
-    nowhere = not_counted ss k (All-weaker (λ s. k < s.place) (λ s. s.place ≡ k → ⊥) (λ s m e. omega arith) ss above)
+    nowhere = not_counted ss k (none_upto k k ss (omega arith) above)
 
     go : (b : Bool) → eqb k j ≡ b → 0 + along_count ss j + (cond b 1 0 + against_count ss j) ≤ 1
     go true q = subst (λ (x : ℕ). 0 + along_count ss x + (1 + against_count ss x) ≤ 1) (eqb-true k j q) (omega (arith, nowhere))
@@ -118,15 +110,13 @@ loads_lowered T S k d ss a W f g h o sl above room L =
     let closed = loads_round T S (T.end k) d (back k ∷ ss) (a, refl, W) f g h (once_more k ss o above) ((λ e. room), sl) L in (
       closed.0,
       closed.1,
-      (λ j l. shift_keeps d (back k ∷ ss) f g h j ((λ e. omega arith), All-weaker (λ s. k < s.place) (λ s. s.place ≡ j → ⊥) (λ s m e. omega arith) ss above)),
+      (λ j l. shift_keeps d (back k ∷ ss) f g h j ((λ e. omega arith), none_upto k j ss (omega arith) above)),
       at_k,
     )
   where
-    nowhere : (along_count ss k ≡ 0) × (against_count ss k ≡ 0)
-    nowhere = not_counted ss k (All-weaker (λ s. k < s.place) (λ s. s.place ≡ k → ⊥) (λ s m e. omega arith) ss above)
-
     at_k : g k + d ≡ f k
     at_k =
+        let nowhere = not_counted ss k (none_upto k k ss (omega arith) above) in
         let here = ap (λ (b : Bool). d * (cond b 1 0 + against_count ss k)) (eq-eqb k k refl) in
         let none = ap (λ (x : ℕ). d * x) nowhere.0 in
         let no_more = ap (λ (x : ℕ). d * x) nowhere.1 in
@@ -137,42 +127,27 @@ pub shifted_is : (d : ℕ) (ss : List Step) (f : ℕ → ℕ) → ((k : ℕ) →
 shifted_is d ss f h k = omega (arith, h k)
 
 pub slack_enough : (d : ℕ) (ss : List Step) (f : ℕ → ℕ) → Once ss → AllByRecursion (Slack d f) ss → (k : ℕ) → d * against_count ss k ≤ f k + d * along_count ss k
-slack_enough d ss f o a k = ⊎_elim one (⊎_elim none more) (cases_order (against_count ss k) 1)
-  where
-    one : against_count ss k ≡ 1 → d * against_count ss k ≤ f k + d * along_count ss k
-    one e =
-        let was = slack_at d f ss a k (omega arith) in
-        let less = ap (λ (x : ℕ). d * x) e in
-        omega arith
-
-    none : against_count ss k < 1 → d * against_count ss k ≤ f k + d * along_count ss k
-    none m =
-        let zero_there : against_count ss k ≡ 0 = omega arith in
-        let less = ap (λ (x : ℕ). d * x) zero_there in
-        omega arith
-
-    more : 1 < against_count ss k → d * against_count ss k ≤ f k + d * along_count ss k
-    more m = omega (arith, o k)
+slack_enough d ss f o a k = ⊎_elim (λ e. omega arith) (λ m. omega arith) (slack_left d ss f o a k)
 
 -- on a way on which a number of the nodes falls, no place is stepped twice
-falling_from : (T : Table) (rank : ℕ → ℕ) (u v : ℕ) (ss : List Step) → Way T u ss v → AllByRecursion (Falls T rank) ss → AllByRecursion (λ s. rank (step_from T s) ≤ rank u) ss
+falling_from : (T : Table) (rank : ℕ → ℕ) (u v : ℕ) (ss : List Step) → Way T u ss v → AllByRecursion (Falls T rank) ss →
+    AllByRecursion (λ s. Falls T rank s × (rank (step_from T s) ≤ rank u)) ss
 falling_from T rank u v [] W h = tt
 falling_from T rank u v (s ∷ ss) W h =
     let start = ap rank W.1 in
     let less = h.0 in
-    let rest = falling_from T rank (step_to T s) v ss W.2 h.1 in
-    (omega arith, All-weaker (λ r. rank (step_from T r) ≤ rank (step_to T s)) (λ r. rank (step_from T r) ≤ rank u) (λ r l. omega arith) ss rest)
-
-all_both : {X : Type 0} (P Q : X → Type 0) (xs : List X) → AllByRecursion P xs → AllByRecursion Q xs → AllByRecursion (λ x. P x × Q x) xs
-all_both P Q [] p q = tt
-all_both P Q (x ∷ xs) p q = ((p.0, q.0), all_both P Q xs p.1 q.1)
+    let rest = falling_from T rank (step_to T s) v ss W.2 h.1 in (
+      (less, omega arith),
+      each_weaker (λ r. Falls T rank r × (rank (step_from T r) ≤ rank (step_to T s))) (λ r. Falls T rank r × (rank (step_from T r) ≤ rank u))
+          (λ r l. (l.0, omega arith)) ss rest,
+    )
 
 pub falling_once : (T : Table) (rank : ℕ → ℕ) (u v : ℕ) (ss : List Step) → Way T u ss v → AllByRecursion (Falls T rank) ss → Once ss
 falling_once T rank u v [] W h k = omega arith
 falling_once T rank u v (s ∷ ss) W h k = go (falling_once T rank (step_to T s) v ss W.2 h.1 k) s.along (eqb s.place k) refl
   where
     later : AllByRecursion (λ r. Falls T rank r × (rank (step_from T r) ≤ rank (step_to T s))) ss
-    later = all_both (Falls T rank) (λ r. rank (step_from T r) ≤ rank (step_to T s)) ss h.1 (falling_from T rank (step_to T s) v ss W.2 h.1)
+    later = falling_from T rank (step_to T s) v ss W.2 h.1
 
     differ : (r : Step) → Falls T rank r × (rank (step_from T r) ≤ rank (step_to T s)) → r.place ≡ s.place → ⊥
     differ r l e = clash s.along r.along s.place r.place e h.0 l.0 l.1
@@ -191,18 +166,14 @@ falling_once T rank u v (s ∷ ss) W h k = go (falling_once T rank (step_to T s)
             sides false true p q x y z = omega arith
             sides false false p q x y z = omega arith
 
+    nowhere : eqb s.place k ≡ true → (along_count ss k ≡ 0) × (against_count ss k ≡ 0)
+    nowhere q = not_counted ss k (each_weaker (λ r. Falls T rank r × (rank (step_from T r) ≤ rank (step_to T s))) (λ r. r.place ≡ k → ⊥)
+        (λ r l e. differ r l (e ∙ sym (eqb-true s.place k q))) ss later)
+
     go : along_count ss k + against_count ss k ≤ 1 → (a b : Bool) → eqb s.place k ≡ b →
         cond (a && b) 1 0 + along_count ss k + (cond (not a && b) 1 0 + against_count ss k) ≤ 1
-    go rest true true q =
-        let nowhere = not_counted ss k
-        (All-weaker (λ r. Falls T rank r × (rank (step_from T r) ≤ rank (step_to T s))) (λ r. r.place ≡ k → ⊥)
-        (λ r l e. differ r l (e ∙ sym (eqb-true s.place k q))) ss later) in
-        omega arith
-    go rest false true q =
-        let nowhere = not_counted ss k
-        (All-weaker (λ r. Falls T rank r × (rank (step_from T r) ≤ rank (step_to T s))) (λ r. r.place ≡ k → ⊥)
-        (λ r l e. differ r l (e ∙ sym (eqb-true s.place k q))) ss later) in
-        omega arith
+    go rest true true q = omega (arith, nowhere q)
+    go rest false true q = omega (arith, nowhere q)
     go rest true false q = omega arith
     go rest false false q = omega arith
 

@@ -1,22 +1,11 @@
 -- Laws of sums over the numbers below a bound.
-use Rattle.std.proofs.Common.{◌≡◌, ℕ, zero, suc, ◌+◌, ◌*◌, ◌<◌, ◌≤◌, Bool, true, false, cond, ◌&&◌, eqb, sym, refl, ap, ◌∙◌, ⊎_elim, arith}
-use Rattle.std.proofs.lemmas.Bool.{cases_order, eq-eqb, ne_eqb}
+use Rattle.std.proofs.Common.{◌≡◌, ℕ, zero, suc, ◌+◌, ◌-◌, ◌*◌, ◌<◌, ◌≤◌, Bool, true, false, cond, ◌&&◌, eqb, sym, refl, ap, ◌∙◌, ⊎_elim, arith}
+use Rattle.std.proofs.lemmas.Bool.{cases_order, eq-eqb, ne_eqb, cond_both}
 use Rattle.wiring.specs.Loads.{sum_below, sum_where}
 
-pub sum_cong : (n : ℕ) (f g : ℕ → ℕ) → ((k : ℕ) → k < n → f k ≡ g k) → sum_below n f ≡ sum_below n g
-sum_cong zero f g h = refl
-sum_cong (suc n) f g h =
-    let below = sum_cong n f g (λ k l. h k (omega arith)) in
-    let here = h n (omega arith) in
-    omega arith
-
-pub sum_add : (n : ℕ) (f g : ℕ → ℕ) → sum_below n (λ k. f k + g k) ≡ sum_below n f + sum_below n g
-sum_add zero f g = refl
-sum_add (suc n) f g = let below = sum_add n f g in omega arith
-
-sum_times : (n c : ℕ) (f : ℕ → ℕ) → sum_below n (λ k. c * f k) ≡ c * sum_below n f
-sum_times zero c f = omega arith
-sum_times (suc n) c f = let below = sum_times n c f in omega arith
+sum_zero : (n : ℕ) → sum_below n (λ k. 0) ≡ 0
+sum_zero zero = refl
+sum_zero (suc n) = omega (arith, sum_zero n)
 
 -- an equation between two and two terms at each number holds of the sums
 pub sum_level : (n : ℕ) (a b c d : ℕ → ℕ) → ((k : ℕ) → k < n → a k + b k ≡ c k + d k) → sum_below n a + sum_below n b ≡ sum_below n c + sum_below n d
@@ -26,22 +15,28 @@ sum_level (suc n) a b c d h =
     let here = h n (omega arith) in
     omega arith
 
+pub sum_cong : (n : ℕ) (f g : ℕ → ℕ) → ((k : ℕ) → k < n → f k ≡ g k) → sum_below n f ≡ sum_below n g
+sum_cong n f g h = omega (arith, sum_level n f (λ k. 0) g (λ k. 0) (λ k l. omega (arith, h k l)))
+
+pub sum_add : (n : ℕ) (f g : ℕ → ℕ) → sum_below n (λ k. f k + g k) ≡ sum_below n f + sum_below n g
+sum_add n f g = omega (arith, sum_level n (λ k. f k + g k) (λ k. 0) f g (λ k l. omega arith), sum_zero n)
+
+sum_times : (n c : ℕ) (f : ℕ → ℕ) → sum_below n (λ k. c * f k) ≡ c * sum_below n f
+sum_times zero c f = omega arith
+sum_times (suc n) c f = let below = sum_times n c f in omega arith
+
+-- with at least as much at each number, the rest makes up the sum
+sum_rest : (n : ℕ) (f g : ℕ → ℕ) → ((k : ℕ) → k < n → f k ≤ g k) → sum_below n g ≡ sum_below n f + sum_below n (λ k. g k - f k)
+sum_rest n f g h = omega (arith, sum_level n g (λ k. 0) f (λ k. g k - f k) (λ k l. omega (arith, h k l)), sum_zero n)
+
 pub sum_le : (n : ℕ) (f g : ℕ → ℕ) → ((k : ℕ) → k < n → f k ≤ g k) → sum_below n f ≤ sum_below n g
-sum_le zero f g h = omega arith
-sum_le (suc n) f g h =
-    let below = sum_le n f g (λ k l. h k (omega arith)) in
-    let here = h n (omega arith) in
-    omega arith
+sum_le n f g h = omega (arith, sum_rest n f g h)
 
 pub sum_none : (n : ℕ) (f : ℕ → ℕ) → ((k : ℕ) → k < n → f k ≡ 0) → sum_below n f ≡ 0
-sum_none zero f h = refl
-sum_none (suc n) f h =
-    let below = sum_none n f (λ k l. h k (omega arith)) in
-    let here = h n (omega arith) in
-    omega arith
+sum_none n f h = sum_cong n f (λ k. 0) h ∙ sum_zero n
 
 sum_exchange : (m n : ℕ) (h : ℕ → ℕ → ℕ) → sum_below m (λ i. sum_below n (λ j. h i j)) ≡ sum_below n (λ j. sum_below m (λ i. h i j))
-sum_exchange zero n h = sym (sum_none n (λ j. 0) (λ k l. refl))
+sum_exchange zero n h = sym (sum_zero n)
 sum_exchange (suc m) n h =
     let below = sum_exchange m n h in
     let joined = sum_add n (λ j. sum_below m (λ i. h i j)) (h m) in
@@ -66,6 +61,11 @@ sum_one (suc n) c f l h = ⊎_elim here (⊎_elim (before (λ m. sum_one n c f m
 
     after : n < c → sum_below (suc n) f ≡ f c
     after m = omega arith
+
+-- a test under a test
+cond_and : (p q : Bool) (x : ℕ) → cond p (cond q x 0) 0 ≡ cond (p && q) x 0
+cond_and true q x = refl
+cond_and false q x = refl
 
 -- one term at c alone
 pub sum_point : (n c : ℕ) (P : ℕ → Bool) (x : ℕ) → c < n → sum_below n (λ v. cond (P v && eqb c v) x 0) ≡ cond (P c) x 0
@@ -94,11 +94,7 @@ pub where_none : (n : ℕ) (P : ℕ → Bool) (f : ℕ → ℕ) → ((k : ℕ) �
 where_none n P f h = sum_none n (λ k. cond (P k) (f k) 0) (λ k l. ap (λ (z : Bool). cond z (f k) 0) (h k l))
 
 pub where_zero : (n : ℕ) (P : ℕ → Bool) → sum_where n P (λ k. 0) ≡ 0
-where_zero n P = sum_none n (λ k. cond (P k) 0 0) (λ k l. at (P k))
-  where
-    at : (b : Bool) → ◌≡◌ {A = ℕ} (cond b 0 0) 0
-    at true = refl
-    at false = refl
+where_zero n P = sum_none n (λ k. cond (P k) 0 0) (λ k l. cond_both (P k) 0 0 (λ x. x ≡ 0) (λ e. refl) (λ e. refl))
 
 pub where_same : (n : ℕ) (P Q : ℕ → Bool) (f : ℕ → ℕ) → ((k : ℕ) → k < n → P k ≡ Q k) → sum_where n P f ≡ sum_where n Q f
 where_same n P Q f h = sum_cong n (λ k. cond (P k) (f k) 0) (λ k. cond (Q k) (f k) 0) (λ k l. ap (λ (z : Bool). cond z (f k) 0) (h k l))
@@ -128,7 +124,7 @@ where_times n P c f =
 -- a test outside a sum goes in
 sum_under : (n : ℕ) (b : Bool) (f : ℕ → ℕ) → cond b (sum_below n f) 0 ≡ sum_below n (λ k. cond b (f k) 0)
 sum_under n true f = refl
-sum_under n false f = sym (sum_none n (λ k. 0) (λ k l. refl))
+sum_under n false f = sym (sum_zero n)
 
 -- the sum over nodes of R, each with the terms whose node it is, is the sum over terms whose node is in R
 pub sum_gather : (n m : ℕ) (P : ℕ → Bool) (e : ℕ → ℕ) (R : ℕ → Bool) (f : ℕ → ℕ) → ((k : ℕ) → P k ≡ true → e k < n) →
@@ -140,19 +136,11 @@ sum_gather n m P e R f h =
     ∙ sum_cong m (λ k. sum_below n (λ v. cond (R v) (cond (P k && eqb (e k) v) (f k) 0) 0)) (λ k. cond (P k && R (e k)) (f k) 0)
     (λ k l. column k (P k) refl))
   where
-    turn : (r q : Bool) (x : ℕ) → cond r (cond q x 0) 0 ≡ cond (r && q) x 0
-    turn true q x = refl
-    turn false q x = refl
-
     column : (k : ℕ) (p : Bool) → P k ≡ p → sum_below n (λ v. cond (R v) (cond (p && eqb (e k) v) (f k) 0) 0) ≡ cond (p && R (e k)) (f k) 0
     column k true q =
-        sum_cong n (λ v. cond (R v) (cond (eqb (e k) v) (f k) 0) 0) (λ v. cond (R v && eqb (e k) v) (f k) 0) (λ v l. turn (R v) (eqb (e k) v) (f k))
+        sum_cong n (λ v. cond (R v) (cond (eqb (e k) v) (f k) 0) 0) (λ v. cond (R v && eqb (e k) v) (f k) 0) (λ v l. cond_and (R v) (eqb (e k) v) (f k))
         ∙ sum_point n (e k) R (f k) (h k q)
-    column k false q = sum_none n (λ v. cond (R v) 0 0) (λ v l. zeros (R v))
-      where
-        zeros : (r : Bool) → ◌≡◌ {A = ℕ} (cond r 0 0) 0
-        zeros true = refl
-        zeros false = refl
+    column k false q = where_zero n R
 
 -- a term is at most the sum
 pub sum_term : (n c : ℕ) (f : ℕ → ℕ) → c < n → f c ≤ sum_below n f
@@ -164,17 +152,7 @@ sum_term (suc n) c f l = ⊎_elim (λ e. here e) (⊎_elim (λ m. let rest = sum
 
 -- nowhere more and at one number less: the sum is less
 pub sum_lt : (n c : ℕ) (f g : ℕ → ℕ) → c < n → ((k : ℕ) → k < n → f k ≤ g k) → f c < g c → sum_below n f < sum_below n g
-sum_lt zero c f g l h s = omega arith
-sum_lt (suc n) c f g l h s =
-    ⊎_elim (λ e. here e) (⊎_elim (λ m. let rest = sum_lt n c f g m (λ k p. h k (omega arith)) s in let last = h n (omega arith) in omega arith)
-    (λ m. omega arith)) (cases_order c n)
-  where
-    here : c ≡ n → sum_below (suc n) f < sum_below (suc n) g
-    here e =
-        let rest = sum_le n f g (λ k p. h k (omega arith)) in
-        let one = ap f e in
-        let two = ap g e in
-        omega arith
+sum_lt n c f g l h s = omega (arith, sum_rest n f g h, sum_term n c (λ k. g k - f k) l)
 
 -- a sum that is not zero has a term that is not
 sum_some : (n : ℕ) (f : ℕ → ℕ) → 1 ≤ sum_below n f → (k : ℕ) × (k < n) × (1 ≤ f k)
@@ -188,11 +166,7 @@ sum_some (suc n) f h = ⊎_elim (λ (e : 0 ≡ f n). earlier (sum_some n f (omeg
 -- one unit at one place, if b holds
 pub where_unit : (n : ℕ) (P : ℕ → Bool) (b : Bool) (j : ℕ) → j < n → sum_where n P (λ k. cond (b && eqb j k) 1 0) ≡ cond (b && P j) 1 0
 where_unit n P true j l =
-    sum_cong n (λ k. cond (P k) (cond (eqb j k) 1 0) 0) (λ k. cond (P k && eqb j k) 1 0) (λ k m. at (P k) (eqb j k)) ∙ sum_point n j P 1 l
-  where
-    at : (p q : Bool) → ◌≡◌ {A = ℕ} (cond p (cond q 1 0) 0) (cond (p && q) 1 0)
-    at true q = refl
-    at false q = refl
+    sum_cong n (λ k. cond (P k) (cond (eqb j k) 1 0) 0) (λ k. cond (P k && eqb j k) 1 0) (λ k m. cond_and (P k) (eqb j k) 1) ∙ sum_point n j P 1 l
 where_unit n P false j l = where_zero n P
 
 -- a term at which the test holds is at most the sum

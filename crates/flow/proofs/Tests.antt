@@ -1,6 +1,6 @@
 -- What the tests show.
-use Rattle.std.proofs.Common.{◌≡◌, ℕ, ◌<◌, ◌≤◌, Bool, true, false, cond, not, ◌&&◌, ◌||◌, eqb, leb, ◌⊎◌, sym, refl, ◌∙◌, subst, inl, inr, ⊎_elim, arith}
-use Rattle.std.proofs.lemmas.Bool.{cases_lt, both_ways, eqb-true, leb-true, and_parts, or_cases, not-true}
+use Rattle.std.proofs.Common.{◌≡◌, ℕ, ◌<◌, ◌≤◌, Bool, true, false, cond, not, ◌&&◌, ◌||◌, eqb, leb, ◌⊎◌, sym, ◌∙◌, inl, inr, ⊎_elim, arith}
+use Rattle.std.proofs.lemmas.Bool.{cases_lt, eqb-true, leb-true, and_parts, or_cases, not-true}
 use Rattle.wiring.specs.Net.{all_below}
 use Rattle.wiring.proofs.Ends.{all_below_at}
 use Rattle.flow.specs.Table.{Table, Sound}
@@ -8,11 +8,6 @@ use Rattle.flow.specs.Loads.{out_of, into, Loads, Best, Tight, Settled}
 use Rattle.flow.specs.Tests.{loads_test, keeps, tight_test, settled_test, best_test}
 use Rattle.flow.proofs.Cuts.{arc_inside, none_at}
 use Rattle.flow.proofs.Best.{best_by_cuts}
-
--- a test that holds unless there is no arc
-arc_part : (a x : Bool) → (not a || x) ≡ true → a ≡ true → x ≡ true
-arc_part true x h e = h
-arc_part false x h e = absurd (both_ways false refl e)
 
 -- at nodes past the last nothing begins or ends
 past_nodes : (T : Table) → Sound T → (f : ℕ → ℕ) (v : ℕ) → T.nodes ≤ v → into T f v ≡ out_of T f v
@@ -23,7 +18,7 @@ past_nodes T S f v l =
 loads_by_test : (T : Table) → Sound T → (f : ℕ → ℕ) → ((k : ℕ) → T.places ≤ k → f k ≡ 0) → loads_test T f ≡ true → Loads T f
 loads_by_test T S f past h =
     record {
-      arcs = λ k a. ⊎_elim (λ l. some k a (at k l)) (λ l. absurd (both_ways (T.arc k) (S.past k l) a)) (cases_lt k T.places);
+      arcs = λ k a. some k a (at k (arc_inside T S k a));
       vacant = λ k a. ⊎_elim (λ l. none k a (at k l)) (λ l. past k l) (cases_lt k T.places);
       balanced = λ v a b. ⊎_elim (λ l. level v a b l) (λ l. past_nodes T S f v l) (cases_lt v T.nodes);
     }
@@ -38,10 +33,10 @@ loads_by_test T S f past h =
     at = all_below_at T.places load (and_parts (all_below T.places load) (all_below T.nodes even) h).0
 
     some : (k : ℕ) → T.arc k ≡ true → load k ≡ true → 1 ≤ f k
-    some k a t = leb-true 1 (f k) (subst (λ (b : Bool). cond b (leb 1 (f k)) (eqb (f k) 0) ≡ true) a t)
+    some k a t = leb-true 1 (f k) (rw a at t)
 
     none : (k : ℕ) → T.arc k ≡ false → load k ≡ true → f k ≡ 0
-    none k a t = eqb-true (f k) 0 (subst (λ (b : Bool). cond b (leb 1 (f k)) (eqb (f k) 0) ≡ true) a t)
+    none k a t = eqb-true (f k) 0 (rw a at t)
 
     level : (v : ℕ) → (v ≡ T.source → ⊥) → (v ≡ T.sink → ⊥) → v < T.nodes → into T f v ≡ out_of T f v
     level v a b l =
@@ -53,22 +48,10 @@ loads_by_test T S f past h =
 
 -- the two facts of an arc that keeps R
 keeps_in : (T : Table) (f : ℕ → ℕ) (R : ℕ → Bool) (k : ℕ) → keeps T f R k ≡ true → T.arc k ≡ true → R (T.begin k) ≡ true → R (T.end k) ≡ true
-keeps_in T f R k h a b = go (R (T.begin k)) (R (T.end k)) (eqb (f k) 1)
-    (arc_part (T.arc k) (cond (R (T.begin k)) (R (T.end k)) (not (R (T.end k)) || eqb (f k) 1)) h a) b
-  where
-    go : (p q e : Bool) → cond p q (not q || e) ≡ true → p ≡ true → q ≡ true
-    go true q e h b = h
-    go false q e h b = absurd (both_ways false refl b)
+keeps_in T f R k h a b = rw (a, b) at h
 
 keeps_one : (T : Table) (f : ℕ → ℕ) (R : ℕ → Bool) (k : ℕ) → keeps T f R k ≡ true → T.arc k ≡ true → R (T.begin k) ≡ false → R (T.end k) ≡ true → f k ≡ 1
-keeps_one T f R k h a b c =
-    eqb-true (f k) 1 (go (R (T.begin k)) (R (T.end k)) (eqb (f k) 1)
-    (arc_part (T.arc k) (cond (R (T.begin k)) (R (T.end k)) (not (R (T.end k)) || eqb (f k) 1)) h a) b c)
-  where
-    go : (p q e : Bool) → cond p q (not q || e) ≡ true → p ≡ false → q ≡ true → e ≡ true
-    go true q e h b c = absurd (both_ways true b refl)
-    go false true e h b c = h
-    go false false e h b c = absurd (both_ways false refl c)
+keeps_one T f R k h a b c = eqb-true (f k) 1 (rw (a, b, c) at h)
 
 tight_by_test : (T : Table) → Sound T → (f : ℕ → ℕ) (R : ℕ → Bool) → tight_test T f R ≡ true → Tight T f R
 tight_by_test T S f R h =
@@ -114,4 +97,4 @@ best_by_test_lem T S f past R Q h =
     each : (k : ℕ) → T.arc k ≡ true → (f k ≡ 1) ⊎ ((P : ℕ → Bool) × Settled T f k P)
     each k a = ⊎_elim (λ e. inl (eqb-true (f k) 1 e)) (λ e. inr (Q k, settled_by_test T S f k (Q k) e))
         (or_cases (eqb (f k) 1) (settled_test T f k (Q k))
-        (arc_part (T.arc k) (arc_test k) (all_below_at T.places (λ j. not (T.arc j) || arc_test j) two.1 k (arc_inside T S k a)) a))
+        (rw a at (all_below_at T.places (λ j. not (T.arc j) || arc_test j) two.1 k (arc_inside T S k a))))

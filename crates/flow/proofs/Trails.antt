@@ -1,20 +1,19 @@
 -- From what a search leaves behind, a way; and how much can be shifted along it.
-use Rattle.std.proofs.Common.{◌≡◌, ℕ, zero, suc, ◌+◌, ◌-◌, ◌<◌, ◌≤◌, min, Bool, true, false, cond, List, [], ◌∷◌, sym, refl, ap, ◌∙◌, subst, ⊎_elim, arith}
+use Rattle.std.proofs.Common.{◌≡◌, ℕ, zero, suc, ◌+◌, ◌-◌, ◌<◌, ◌≤◌, min, Bool, true, false, cond, List, [], ◌∷◌, sym, refl, ap, subst, ⊎_elim, arith}
 use Rattle.std.specs.List.{AllByRecursion}
-use Rattle.std.proofs.lemmas.Bool.{cases_eq}
-use Rattle.std.proofs.ByRecursion.{All-weaker}
+use Rattle.std.proofs.lemmas.Bool.{cases_eq, both_ways}
 use Rattle.flow.specs.Table.{Table, Sound}
 use Rattle.flow.specs.Loads.{total, Loads}
 use Rattle.flow.specs.Ways.{Step, Way, step_from, step_to, Once, Falls, Slack, Shifted, shifted, back}
 use Rattle.flow.specs.Trails.{Came, Found, slack_of}
-use Rattle.flow.proofs.Shifts.{falling_once, shifted_is, slack_enough, once_more, loads_lowered, loads_down}
+use Rattle.flow.proofs.Shifts.{each_weaker, falling_once, shifted_is, slack_enough, once_more, loads_lowered, loads_down}
 
 -- a number of the nodes rises along the way, up to a bound
 pub rising_once : (T : Table) (depth : ℕ → ℕ) (most u v : ℕ) (ss : List Step) → Way T u ss v →
     AllByRecursion (λ s. (depth (step_from T s) < depth (step_to T s)) × (depth (step_to T s) ≤ most)) ss → Once ss
 rising_once T depth most u v ss W h =
     falling_once T (λ n. most - depth n) u v ss W
-    (All-weaker (λ s. (depth (step_from T s) < depth (step_to T s)) × (depth (step_to T s) ≤ most)) (Falls T (λ n. most - depth n)) (λ s l. omega arith) ss h)
+    (each_weaker (λ s. (depth (step_from T s) < depth (step_to T s)) × (depth (step_to T s) ≤ most)) (Falls T (λ n. most - depth n)) (λ s l. omega arith) ss h)
 
 -- a step of a way that a search found: from low on, free, and from a node to one reached later, at most so deep
 abbrev pub Good : Table → (ℕ → ℕ) → ℕ → (ℕ → ℕ) → ℕ → Step → Type 0
@@ -27,10 +26,10 @@ abbrev pub good_found : (T : Table) (f : ℕ → ℕ) (low u v : ℕ) (depth : �
 good_found T f low u v depth ss W G = record {
   steps = ss;
   way = W;
-  above = All-weaker (Good T f low depth (depth v)) (λ s. low ≤ s.place) (λ s g. g.0) ss G;
-  free = All-weaker (Good T f low depth (depth v)) (λ s. s.along ≡ false → 2 ≤ f s.place) (λ s g. g.1) ss G;
+  above = each_weaker (Good T f low depth (depth v)) (λ s. low ≤ s.place) (λ s g. g.0) ss G;
+  free = each_weaker (Good T f low depth (depth v)) (λ s. s.along ≡ false → 2 ≤ f s.place) (λ s g. g.1) ss G;
   once = rising_once T depth (depth v) u v ss W
-      (All-weaker (Good T f low depth (depth v)) (λ s. (depth (step_from T s) < depth (step_to T s)) × (depth (step_to T s) ≤ depth v))
+      (each_weaker (Good T f low depth (depth v)) (λ s. (depth (step_from T s) < depth (step_to T s)) × (depth (step_to T s) ≤ depth v))
       (λ s g. (g.2, g.3)) ss G);
 }
 
@@ -69,7 +68,7 @@ slack_le f x (s ∷ ss) = go s.along (slack_le f x ss)
     go false l = omega arith
 
 slack_weaker : (f : ℕ → ℕ) (d e : ℕ) (ss : List Step) → e ≤ d → AllByRecursion (Slack d f) ss → AllByRecursion (Slack e f) ss
-slack_weaker f d e ss l h = All-weaker (Slack d f) (Slack e f) (λ s g q. omega (arith, g q)) ss h
+slack_weaker f d e ss l h = each_weaker (Slack d f) (Slack e f) (λ s g q. omega (arith, g q)) ss h
 
 pub slack_fits : (f : ℕ → ℕ) (x : ℕ) (ss : List Step) → AllByRecursion (λ s. s.along ≡ false → 2 ≤ f s.place) ss → AllByRecursion (Slack (slack_of f x ss) f) ss
 slack_fits f x [] h = tt
@@ -79,7 +78,7 @@ slack_fits f x (s ∷ ss) h = go s.along refl (slack_fits f x ss h.1)
     low a = cond a (slack_of f x ss) (min (f s.place - 1) (slack_of f x ss))
 
     go : (a : Bool) → s.along ≡ a → AllByRecursion (Slack (slack_of f x ss) f) ss → AllByRecursion (Slack (low s.along) f) (s ∷ ss)
-    go true e r = ((λ q. absurd (mathlib.Core.Bool.true≢false (sym e ∙ q))), subst (λ (b : Bool). AllByRecursion (Slack (low b) f) ss) (sym e) r)
+    go true e r = ((λ q. absurd (both_ways s.along q e)), subst (λ (b : Bool). AllByRecursion (Slack (low b) f) ss) (sym e) r)
     go false e r = (
       (λ q. subst (λ (b : Bool). low b + 1 ≤ f s.place) (sym e) (omega (arith, h.0 q))),
       subst (λ (b : Bool). AllByRecursion (Slack (low b) f) ss) (sym e) (slack_weaker f (slack_of f x ss) (low false) ss (omega arith) r),

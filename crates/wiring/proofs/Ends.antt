@@ -1,7 +1,8 @@
 -- Which leads enter and leave a node, and what inputs, outputs and bare nodes are.
-use Rattle.std.proofs.Common.{◌≡◌, ℕ, ◌<◌, ◌≤◌, Bool, true, false, not, Some, None, Decides, Option, refl, ap, ◌∙◌, ⊎_elim, arith}
+use Rattle.std.proofs.Common.{◌≡◌, ℕ, ◌<◌, ◌≤◌, Bool, true, false, not, Some, None, Decides, Option, sym, refl, ap, ◌∙◌, ◌⊎◌, inl, inr, ⊎_elim, arith}
 use Rattle.std.proofs.lemmas.Bool.{cases_lt, both_ways, and_parts, and_from, not-true, not_from_false, eqb-true, eq-eqb}
 use Rattle.std.proofs.lemmas.Bool.Decides.{Decides-below_or, Decides-below_and}
+use Rattle.std.proofs.lemmas.Option.{none-some}
 use Rattle.wiring.specs.declared.Lead.{Lead}
 use Rattle.delay.specs.Kind.{Kind}
 use Rattle.wiring.specs.Net.{Net, Holds, Sound, tail_is, head_is, leaves, enters, some_below, all_below, has_lead_in, has_lead_out, is_input, is_output, is_inner, is_bare}
@@ -41,11 +42,17 @@ tail_from v None e = absurd (both_ways false refl e)
 pub one_lead : {D : Type 0} (N : Net D) (k : ℕ) {l m : Lead D} → Holds N k l → Holds N k m → l ≡ m
 one_lead N k p q = cc
 
+-- at a place stands a lead or none
+pub lead_or_none : {D : Type 0} (N : Net D) (k : ℕ) → ((l : Lead D) × Holds N k l) ⊎ (N.at k ≡ None)
+lead_or_none {D} N k = go (N.at k) refl
+  where
+    go : (o : Option (Lead D)) → N.at k ≡ o → ((l : Lead D) × Holds N k l) ⊎ (N.at k ≡ None)
+    go (Some l) e = inl (l, e)
+    go None e = inr e
+
 module _ {D : Type 0} (N : Net D) where
   pub below_places : (k : ℕ) (l : Lead D) → Holds N k l → k < N.places
-  below_places k l h = ⊎_elim (λ p. p)
-      (λ p. let e : N.at k ≡ None = N.vacant k p in let z : ◌≡◌ {A = ℕ} 0 1 = cc in absurd (omega arith))
-      (cases_lt k N.places)
+  below_places k l h = ⊎_elim (λ p. p) (λ p. absurd (none-some l (sym (N.vacant k p) ∙ h))) (cases_lt k N.places)
 
   pub lead_in : (v : ℕ) → has_lead_in N v ≡ true → LeadIn N v
   lead_in v e =
@@ -90,9 +97,6 @@ inner_parts N v e = and_parts (has_lead_in N v) (has_lead_out N v) e
 
 pub is_input_lem : {D : Type 0} (N : Net D) (v : ℕ) → has_lead_out N v ≡ true → has_lead_in N v ≡ false → is_input N v ≡ true
 is_input_lem N v p q = and_from (has_lead_out N v) (not (has_lead_in N v)) p (not_from_false (has_lead_in N v) q)
-
-pub is_output_lem : {D : Type 0} (N : Net D) (v : ℕ) → has_lead_in N v ≡ true → has_lead_out N v ≡ false → is_output N v ≡ true
-is_output_lem N v p q = and_from (has_lead_in N v) (not (has_lead_out N v)) p (not_from_false (has_lead_out N v) q)
 
 pub is_bare_lem : {D : Type 0} (N : Net D) (v : ℕ) → has_lead_in N v ≡ false → has_lead_out N v ≡ false → is_bare N v ≡ true
 is_bare_lem N v p q = and_from (not (has_lead_in N v)) (not (has_lead_out N v)) (not_from_false (has_lead_in N v) p) (not_from_false (has_lead_out N v) q)

@@ -5,6 +5,7 @@ use Rattle.wiring.specs.declared.Lead.{Lead}
 use Rattle.delay.specs.Kind.{Kind, SumOf, none, one, both, most_leads, Laws}
 use Rattle.wiring.specs.Net.{Net, Holds, Sound, has_lead_in, has_lead_out}
 use Rattle.wiring.specs.Paths.{Run, stay, along, On, delay_in, delay_at, delay_of}
+use Rattle.wiring.specs.Lists.{count_on}
 use Rattle.delay.proofs.Sums.{weaken, plus_zero}
 use Rattle.wiring.proofs.Ends.{one_lead, head_inside, has_in, has_out}
 
@@ -76,6 +77,11 @@ on_or_not k (j ∷ js) = ⊎_elim
     (λ e. inl (inl e))
     (λ n. ⊎_elim (λ o. inl (inr o)) (λ m. inr (λ o. ⊎_elim n m o)) (on_or_not k js))
     (cases_eq k j)
+
+-- how often k stands on two lists, one behind the other
+pub count_append : (k : ℕ) (xs ys : List ℕ) → count_on k (xs ++ ys) ≡ count_on k xs + count_on k ys
+count_append k [] ys = omega arith
+count_append k (x ∷ xs) ys = omega (arith, count_append k xs ys)
 
 module _ {D : Type 0} {K : Kind D} {N : Net D} (S : Sound K N) where
   -- each lead goes up, so a run has at most as many leads as it climbs

@@ -1,7 +1,9 @@
 -- What the turned view of a wiring tells: its runs are those of the wiring the other way round, and its To is From.
-use Rattle.std.proofs.Common.{◌≡◌, ℕ, ◌<◌, Bool, true, false, not, ◌&&◌, eqb, ltb, List, [], ◌∷◌, reverse, Some, None, Option, sym, refl, ap, ◌∙◌, subst, inl, inr, arith}
+use Rattle.std.proofs.Common.{◌≡◌, ℕ, ◌<◌, not, ◌&&◌, eqb, ltb, List, [], ◌∷◌, reverse, Some, Option, sym, refl, ap, ◌∙◌, subst, inl, inr, ⊎_elim, arith}
 use mathlib.Core.Path.{fun_ext}
 use mathlib.Core.List.{reverse-cons, reverse-reverse}
+use Rattle.std.proofs.Math.Bool.{and_comm}
+use Rattle.std.proofs.lemmas.Option.{none-some, same_Some}
 use Rattle.std.proofs.lemmas.Bool.{and_from, lt-ltb, cond-true}
 use Rattle.std.proofs.lemmas.Bool.Decides.{nat_tests}
 use Rattle.delay.specs.Kind.{Kind, Laws, Le}
@@ -10,14 +12,14 @@ use Rattle.wiring.specs.Net.{Net, Holds, InOrder, Sound, tail_is, head_is, enter
 use Rattle.wiring.specs.Paths.{Run, stay, along, delay_of}
 use Rattle.wiring.specs.Lengths.{To, From}
 use Rattle.wiring.specs.Views.{mirror, flip, turn, turn_place, turned_net, Mirrored, MirroredLengths, Turning}
-use Rattle.wiring.proofs.Ends.{in_inside, out_inside, input_parts, output_parts}
+use Rattle.wiring.proofs.Ends.{lead_or_none, in_inside, out_inside, input_parts, output_parts}
 use Rattle.wiring.proofs.Runs.{at_delay, run_append, run_length, run_sum, lead_sum, delay_last}
 
 pub in_order : {D : Type 0} {K : Kind D} {N : Net D} → Sound K N → InOrder N
 in_order S = record { upwards = S.upwards; inside = S.inside }
 
 -- a run asks only which leads stand where
-run_same : {D : Type 0} {M N : Net D} → ((k : ℕ) → M.at k ≡ N.at k) → {u v : ℕ} {ks : List ℕ} → Run M u v ks → Run N u v ks
+pub run_same : {D : Type 0} {M N : Net D} → ((k : ℕ) → M.at k ≡ N.at k) → {u v : ℕ} {ks : List ℕ} → Run M u v ks → Run N u v ks
 run_same e (stay p) = stay p
 run_same e (along {k = k} l h t r) = along l (sym (e k) ∙ h) t (run_same e r)
 
@@ -45,17 +47,10 @@ module _ {D : Type 0} {N : Net D} (O : InOrder N) where
   turned_holds k l h = ap (turn_place N.nodes) h ∙ ap {B = Option (Lead D)} (λ x. Some x) (turn_is k l h)
 
   pub turned_held : (k : ℕ) (m : Lead D) → Holds (turned_net N) k m → Behind N k m
-  turned_held k m h = go (N.at k) refl
-    where
-      go : (o : Option (Lead D)) → N.at k ≡ o → Behind N k m
-      go (Some l) e =
-          let p : turn N.nodes l ≡ flip N.nodes l = turn_is k l e in
-          let q : Some (turn N.nodes l) ≡ Some m = sym (ap (turn_place N.nodes) e) ∙ h in
-          let r : turn N.nodes l ≡ m = cc in
-          record { lead = l; holds = e; is = sym r ∙ p }
-      go None e =
-          let q : None ≡ Some m = sym (ap (turn_place N.nodes) e) ∙ h in
-          let z : ◌≡◌ {A = ℕ} 0 1 = cc in absurd (omega arith)
+  turned_held k m h = ⊎_elim
+      (λ l. record { lead = l.0; holds = l.1; is = same_Some m (flip N.nodes l.0) (sym h ∙ turned_holds k l.0 l.1) })
+      (λ n. absurd (none-some m (sym (ap (turn_place N.nodes) n) ∙ h)))
+      (lead_or_none N k)
 
   pub turned_in_order : InOrder (turned_net N)
   turned_in_order = record {
@@ -73,21 +68,17 @@ module _ {D : Type 0} {N : Net D} (O : InOrder N) where
 
   -- leads into a node of the view are the leads out of it
   enters_turned : (v : ℕ) → v < N.nodes → (k : ℕ) → enters (turned_net N) (mirror N.nodes v) k ≡ leaves N v k
-  enters_turned v i k = go (N.at k) refl
-    where
-      go : (o : Option (Lead D)) → N.at k ≡ o → head_is (mirror N.nodes v) (turn_place N.nodes (N.at k)) ≡ tail_is v (N.at k)
-      go (Some l) e =
-          let up = O.upwards k l e in let in' = O.inside k l e in
-          ap (head_is (mirror N.nodes v)) (turned_holds k l e) ∙ mirror_tells N.nodes l.tail v (omega arith) i ∙ ap (tail_is v) (sym e)
-      go None e = ap (λ o. head_is (mirror N.nodes v) (turn_place N.nodes o)) e ∙ ap (tail_is v) (sym e)
+  enters_turned v i k = ⊎_elim
+      (λ h. let l = h.0 in ap (head_is (mirror N.nodes v)) (turned_holds k l h.1)
+      ∙ mirror_tells N.nodes l.tail v (omega (arith, O.upwards k l h.1, O.inside k l h.1)) i ∙ ap (tail_is v) (sym h.1))
+      (λ n. ap (λ o. head_is (mirror N.nodes v) (turn_place N.nodes o)) n ∙ ap (tail_is v) (sym n))
+      (lead_or_none N k)
 
   leaves_turned : (v : ℕ) → v < N.nodes → (k : ℕ) → leaves (turned_net N) (mirror N.nodes v) k ≡ enters N v k
-  leaves_turned v i k = go (N.at k) refl
-    where
-      go : (o : Option (Lead D)) → N.at k ≡ o → tail_is (mirror N.nodes v) (turn_place N.nodes (N.at k)) ≡ head_is v (N.at k)
-      go (Some l) e =
-          ap (tail_is (mirror N.nodes v)) (turned_holds k l e) ∙ mirror_tells N.nodes l.head v (O.inside k l e) i ∙ ap (head_is v) (sym e)
-      go None e = ap (λ o. tail_is (mirror N.nodes v) (turn_place N.nodes o)) e ∙ ap (head_is v) (sym e)
+  leaves_turned v i k = ⊎_elim
+      (λ h. ap (tail_is (mirror N.nodes v)) (turned_holds k h.0 h.1) ∙ mirror_tells N.nodes h.0.head v (O.inside k h.0 h.1) i ∙ ap (head_is v) (sym h.1))
+      (λ n. ap (λ o. tail_is (mirror N.nodes v) (turn_place N.nodes o)) n ∙ ap (head_is v) (sym n))
+      (lead_or_none N k)
 
   pub in_turned : (v : ℕ) → v < N.nodes → has_lead_in (turned_net N) (mirror N.nodes v) ≡ has_lead_out N v
   in_turned v i = ap (some_below N.places) (fun_ext (enters_turned v i))
@@ -109,14 +100,11 @@ module _ {D : Type 0} {N : Net D} (O : InOrder N) where
       ∙ ap {B = Lead D} (λ x. record { tail = l.tail; head = x; delay = l.delay }) q
 
   turned_twice : (k : ℕ) → (turned_net (turned_net N)).at k ≡ N.at k
-  turned_twice k = go (N.at k) refl
-    where
-      go : (o : Option (Lead D)) → N.at k ≡ o → turn_place N.nodes (turn_place N.nodes (N.at k)) ≡ N.at k
-      go (Some l) e =
-          let up = O.upwards k l e in let in' = O.inside k l e in
-          turned_holds (turned_in_order O) k (flip N.nodes l) (turned_holds O k l e)
-          ∙ ap {B = Option (Lead D)} (λ x. Some x) (flip_back l (omega arith) in') ∙ sym e
-      go None e = ap (λ o. turn_place N.nodes (turn_place N.nodes o)) e ∙ sym e
+  turned_twice k = ⊎_elim
+      (λ h. turned_holds (turned_in_order O) k (flip N.nodes h.0) (turned_holds O k h.0 h.1)
+      ∙ ap {B = Option (Lead D)} (λ x. Some x) (flip_back h.0 (omega (arith, O.upwards k h.0 h.1, O.inside k h.0 h.1)) (O.inside k h.0 h.1)) ∙ sym h.1)
+      (λ n. ap (λ o. turn_place N.nodes (turn_place N.nodes o)) n ∙ sym n)
+      (lead_or_none N k)
 
   run_back : (u v : ℕ) (ks : List ℕ) → u < N.nodes → v < N.nodes →
       Run (turned_net N) (mirror N.nodes v) (mirror N.nodes u) (reverse ks) → Run N u v ks
@@ -160,13 +148,7 @@ module _ {D : Type 0} {K : Kind D} (L : Laws K) {N : Net D} (S : Sound K N) wher
   bare_turned : (v : ℕ) → v < N.nodes → is_bare (turned_net N) (mirror N.nodes v) ≡ is_bare N v
   bare_turned v i = let O = in_order S in
       ap (λ b. not b && not (has_lead_out (turned_net N) (mirror N.nodes v))) (in_turned O v i) ∙ ap (λ b. not (has_lead_out N v) && not b) (out_turned O v i)
-      ∙ and_swaps (not (has_lead_out N v)) (not (has_lead_in N v))
-    where
-      and_swaps : (a b : Bool) → (a && b) ≡ (b && a)
-      and_swaps true true = refl
-      and_swaps true false = refl
-      and_swaps false true = refl
-      and_swaps false false = refl
+      ∙ and_comm (not (has_lead_out N v)) (not (has_lead_in N v))
 
   -- a longest run to the view's node, turned round, is a longest run from the node
   pub from_turned : (v : ℕ) (x : D) → v < N.nodes → To K (turned_net N) (mirror N.nodes v) x → From K N v x

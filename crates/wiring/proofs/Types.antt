@@ -1,5 +1,5 @@
 -- The two marks of a lead, told from the length tables.
-use Rattle.std.proofs.Common.{◌≡◌, ℕ, Bool, true, false, not, Some, None, Decides, Option, sym, refl, ap, ◌∙◌, subst, ⊎_elim, arith}
+use Rattle.std.proofs.Common.{◌≡◌, ℕ, Bool, true, false, not, None, Decides, sym, ap, ◌∙◌, subst, ap₂, ⊎_elim, arith}
 use mathlib.Core.Path.{fun_ext}
 use Rattle.std.proofs.lemmas.Bool.{cases_Bool, both_ways, and_parts, and_from, not-true, not_from_false}
 use Rattle.std.proofs.lemmas.Bool.Decides.{same_from_decides, Decides-like}
@@ -8,7 +8,7 @@ use Rattle.delay.specs.Kind.{Kind, both, Within, Laws, level}
 use Rattle.wiring.specs.Net.{Net, Holds, Sound, stands, is_lead}
 use Rattle.wiring.specs.Lengths.{Fed, Drains, Marks, Types, marks_in, marks_of}
 use Rattle.delay.proofs.Sums.{weaken, le_eq}
-use Rattle.wiring.proofs.Ends.{head_inside}
+use Rattle.wiring.proofs.Ends.{lead_or_none, head_inside}
 use Rattle.wiring.proofs.Runs.{lead_sum}
 use Rattle.wiring.proofs.Lengths.{to_sum, from_sum, fed_sums, sums_fed}
 use Rattle.wiring.proofs.FromLengths.{drains_sums, sums_drains}
@@ -20,22 +20,11 @@ level_decides {K = K} L {x} {y} a b = (
   λ e. and_from (not (K.below x y)) (not (K.below y x)) (not_from_false (K.below x y) (le_eq L b (sym e))) (not_from_false (K.below y x) (le_eq L a e)),
 )
 
-pair_same : {p q : Bool × Bool} → p.0 ≡ q.0 → p.1 ≡ q.1 → p ≡ q
-pair_same a b = λ i. (a i, b i)
-
 pub lead_at : {D : Type 0} (N : Net D) (k : ℕ) → is_lead N k ≡ true → (l : Lead D) × Holds N k l
-lead_at {D} N k e = go (N.at k) refl e
-  where
-    go : (o : Option (Lead D)) → N.at k ≡ o → stands o ≡ true → (l : Lead D) × Holds N k l
-    go (Some l) h e = (l, h)
-    go None h e = absurd (both_ways false refl e)
+lead_at N k e = ⊎_elim (λ h. h) (λ n. absurd (both_ways (is_lead N k) (ap stands n) e)) (lead_or_none N k)
 
 pub none_at : {D : Type 0} (N : Net D) (k : ℕ) → is_lead N k ≡ false → N.at k ≡ None
-none_at {D} N k e = go (N.at k) refl e
-  where
-    go : (o : Option (Lead D)) → N.at k ≡ o → stands o ≡ false → N.at k ≡ None
-    go (Some l) h e = absurd (both_ways true e refl)
-    go None h e = h
+none_at N k e = ⊎_elim (λ h. absurd (both_ways (is_lead N k) e (ap stands h.1))) (λ n. n) (lead_or_none N k)
 
 module _ {D : Type 0} {K : Kind D} (L : Laws K) {N : Net D} (S : Sound K N) {to from : ℕ → D} (T : Tables K N to from) where
   -- told from the tables, the marks are the types
@@ -61,6 +50,6 @@ module _ {D : Type 0} {K : Kind D} (L : Laws K) {N : Net D} (S : Sound K N) {to 
 -- a wiring has one table of types only
 pub types_same : {D : Type 0} {K : Kind D} {N : Net D} {m n : Marks} → Types K N m → Types K N n → m ≡ n
 types_same {N = N} {m = m} {n = n} A B = fun_ext (λ k. ⊎_elim
-    (λ e. pair_same (same_from_decides (m k).0 (n k).0 (A.drains k e) (B.drains k e)) (same_from_decides (m k).1 (n k).1 (A.fed k e) (B.fed k e)))
+    (λ e. ap₂ (λ (a b : Bool). (a, b)) (same_from_decides (m k).0 (n k).0 (A.drains k e) (B.drains k e)) (same_from_decides (m k).1 (n k).1 (A.fed k e) (B.fed k e)))
     (λ e. A.vacant k e ∙ sym (B.vacant k e))
     (cases_Bool (is_lead N k)))

@@ -1,4 +1,3 @@
-use Rattle.std.proofs.Common.{refl}
 use Rattle.wiring.proofs.Turning.{turning}
 use Rattle.wiring.proofs.turn_round.Goals as goal
 
