@@ -141,13 +141,6 @@ impl<D: Delay> Tables<'_, D> {
             return Ok(Counts { paths: 0, words: 0 });
         }
         let loads = &mut self.loads[..w.places()];
-        draw_on(
-            w,
-            &mut self.lengths,
-            self.marks,
-            loads,
-            words,
-            witness,
-        )
+        draw_on(w, &mut self.lengths, self.marks, loads, words, witness)
     }
 }

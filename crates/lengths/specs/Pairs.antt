@@ -1,5 +1,5 @@
 -- The lengths to and from the nodes, in two tables.
-use Rattle.std.specs.Prelude.{◌≡◌, ℕ, Bool, length, min, drop}
+use Rattle.std.specs.Prelude.{ℕ, Bool, length, min}
 use Rattle.delay.specs.Kind.{Kind}
 use Rattle.wiring.specs.declared.Lead.{Lead}
 use Rattle.wiring.specs.Net.{Net}

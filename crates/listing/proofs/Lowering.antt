@@ -1,15 +1,12 @@
 -- What is left while the leads of a core are lowered one after another.
-use Rattle.std.proofs.Common.{◌≡◌, ℕ, ◌+◌, ◌-◌, ◌<◌, ◌≤◌, cond, eqb, List, [], ◌∷◌, ◌++◌, length, get_or, take, drop, set, ap, ⊎_elim, arith}
+use Rattle.std.proofs.Common.{◌≡◌, ℕ, ◌+◌, ◌-◌, ◌<◌, ◌≤◌, cond, eqb, List, [], ◌∷◌, length, get_or, take, drop, set, ap, ⊎_elim, arith}
 use mathlib.Core.Path.{fun_ext}
 use Rattle.std.proofs.lemmas.Bool.{cases_eq, cases_lt}
 use Rattle.std.proofs.lemmas.List.{get_or-set_same, get_or-set_other, get_or_past, take_more, take-append-drop}
 use Rattle.wiring.specs.Lists.{count_on, lowered}
+use Rattle.wiring.proofs.Runs.{count_append}
 use Rattle.flow.proofs.Sums.{unit_at, unit_off}
 use Rattle.marks.specs.Marks.{load_of}
-
-count_append : (k : ℕ) (xs ys : List ℕ) → count_on k (xs ++ ys) ≡ count_on k xs + count_on k ys
-count_append k [] ys = omega arith
-count_append k (x ∷ xs) ys = omega (arith, count_append k xs ys)
 
 -- of the words up to i, the last counts once more
 module _ (core : List ℕ) (i : ℕ) (l : i < length core) where

@@ -4,7 +4,7 @@ use mathlib.Core.Path.{fun_ext}
 use mathlib.Core.Logic.{∥∥₁_elim}
 use Rattle.std.proofs.Props.{props}
 use Rattle.std.proofs.lemmas.Bool.{cases_Bool, eq-eqb}
-use Rattle.wiring.specs.Lists.{count_on}
+use Rattle.wiring.proofs.Runs.{count_append}
 use Rattle.flow.specs.Table.{Table, Sound, Joined, begins}
 use Rattle.flow.specs.Loads.{Balanced, Loads, total}
 use Rattle.flow.specs.Chains.{Chain, raised}
@@ -33,10 +33,6 @@ chain_join : (T : Table) (u v w : ℕ) (a b : List ℕ) → Chain T u a v → Ch
 chain_join T u v w [] b e C = subst (λ (x : ℕ). Chain T x b w) (sym e) C
 chain_join T u v w (k ∷ a) b R C = (R.0, R.1, chain_join T (T.end k) v w a b R.2 C)
 
-count_join : (k : ℕ) (a b : List ℕ) → count_on k (a ++ b) ≡ count_on k a + count_on k b
-count_join k [] b = omega arith
-count_join k (j ∷ a) b = omega (arith, count_join k a b)
-
 -- a chain followed from u, along its arcs or against them: no arc yet, and one arc more
 pub raised_none : (T : Table) (f : ℕ → ℕ) (along : Bool) (u v : ℕ) → v ≡ u → RaisedOn T f f along u v
 raised_none T f true u v e = record { chain = []; run = sym e; is = λ k. omega arith }
@@ -47,7 +43,7 @@ pub raised_more : (T : Table) (f g h : ℕ → ℕ) (along : Bool) (u v w j : �
 raised_more T f g h true u v w j a b e more r = record {
   chain = r.chain ++ (j ∷ []);
   run = chain_join T u v w r.chain (j ∷ []) r.run (a, b, sym e);
-  is = λ k. omega (arith, more k, r.is k, count_join k r.chain (j ∷ []));
+  is = λ k. omega (arith, more k, r.is k, count_append k r.chain (j ∷ []));
 }
 raised_more T f g h false u v w j a b e more r = record {
   chain = j ∷ r.chain;
@@ -89,9 +85,9 @@ raised_through T f e g h k a one ahead behind = record {
   raised = record {
     chain = behind.chain ++ (k ∷ ahead.chain);
     run = chain_join T T.source (T.begin k) T.sink behind.chain (k ∷ ahead.chain) behind.run (a, refl, ahead.run);
-    is = λ j. omega (arith, one j, ahead.is j, behind.is j, count_join j behind.chain (k ∷ ahead.chain));
+    is = λ j. omega (arith, one j, ahead.is j, behind.is j, count_append j behind.chain (k ∷ ahead.chain));
   };
-  through = omega (arith, ap (λ (b : Bool). cond {A = ℕ} b 1 0) (eq-eqb k k refl), count_join k behind.chain (k ∷ ahead.chain));
+  through = omega (arith, ap (λ (b : Bool). cond {A = ℕ} b 1 0) (eq-eqb k k refl), count_append k behind.chain (k ∷ ahead.chain));
 }
 
 -- no load is above the total

@@ -1,13 +1,12 @@
 -- What shifts along ways come to, and what a search that finds none shows.
 use Rattle.std.proofs.Common.{◌≡◌, ℕ, suc, ◌+◌, ◌-◌, ◌<◌, ◌≤◌, Bool, true, false, ◌⊎◌, List, ◌∷◌, sym, refl, subst, inl, inr, add-one, arith}
 use Rattle.std.proofs.lemmas.Bool.{cases_Bool}
-use Rattle.std.proofs.ByRecursion.{All-weaker}
 use Rattle.flow.specs.Table.{Table, Sound}
 use Rattle.flow.specs.Loads.{Loads, FirstTo, Best, Tight, total}
 use Rattle.flow.specs.Ways.{Step, Shifted, shifted, back}
 use Rattle.flow.specs.Trails.{Found, Shut, slack_of, put}
 use Rattle.flow.proofs.Best.{tight_least}
-use Rattle.flow.proofs.Shifts.{loads_down, shift_keeps}
+use Rattle.flow.proofs.Shifts.{each_weaker, loads_down, shift_keeps}
 use Rattle.flow.proofs.Trails.{slack_fits, slack_some, trail_found, reduce_total_lem, reduce_load}
 use Rattle.flow.proofs.Cells.{shifted_after, shifted_against}
 use Rattle.flow.proofs.Search.{shut_tight, shut_settled, first_none, first_settled, first_one, first_vacant, first_kept, least_kept, first_all}
@@ -40,7 +39,7 @@ kept_at T f h k d u v ns s sh =
     let found = sought_way T f (k + 1) u v ns s in
     let w = found.0 in
     shift_keeps d w.steps f h (subst (λ (ts : List Step). Shifted d ts f h) (sym found.1) sh) k
-    (All-weaker (λ s. k + 1 ≤ s.place) (λ s. s.place ≡ k → ⊥) (λ s m e. omega arith) w.steps w.above)
+    (each_weaker (λ s. k + 1 ≤ s.place) (λ s. s.place ≡ k → ⊥) (λ s m e. omega arith) w.steps w.above)
 
 -- shifted from the begin of the arc at k to its end, and as much taken from k, the load of k is less
 pub lowered : (T : Table) → Sound T → (f h : ℕ → ℕ) (k u v : ℕ) (ns : List Mark) → Loads T f → T.arc k ≡ true → T.begin k ≡ u → T.end k ≡ v → 2 ≤ f k →

@@ -9,6 +9,7 @@ ghost use Rattle.lengths.specs.declared.table.FillError.TheVariants.{Unsound};
 use lengths::check::Fault;
 use lengths::table::FillError;
 use std::alloc::{AllocError, AllocFailed};
+use std::error::Error;
 use wiring::Lead;
 
 pub mod reporting;
@@ -40,12 +41,14 @@ pub struct Survey<D> {
 }
 
 /// Why there is no survey.
-#[derive(Clone, Copy)]
+#[derive(Clone, Copy, PartialEq, Eq, Debug)]
 pub enum SurveyError {
     /// the wiring breaks a limit
     Refused(FillError),
     NoMemory,
 }
+
+impl Error for SurveyError {}
 
 impl From<FillError> for SurveyError {
     ghost from_gives = { λ e r. r ≡ RefusedBy e };

@@ -10,17 +10,20 @@ use crate::surveying::survey_of;
 use delay::{Contact, Delay, Early, Picoseconds};
 use netlist::{KindName, Netlist, ReadError, Wire, read_netlist};
 use std::alloc::{AllocError, Global};
+use std::error::Error;
 use std::fmt;
 use wiring::{Lead, Table};
 
 /// Why a text gets no report.
-#[derive(Clone, Copy)]
+#[derive(Clone, Copy, PartialEq, Eq, Debug)]
 pub enum ReportError {
     /// a line is not as it should be
     Text(ReadError),
     /// the wiring that was read is not surveyed
     Wiring(SurveyError),
 }
+
+impl Error for ReportError {}
 
 impl From<ReadError> for ReportError {
     ghost from_gives = { λ e r. r ≡ Text e };

@@ -1,6 +1,6 @@
-use Rattle.std.proofs.Common.{◌≡◌, Err, sym, refl, ap, ◌∙◌, subst, arith, below_more}
-use Rattle.lengths.specs.Check.{Sized, Keeps, Breaks, KeepsBelow, Finds}
-use Rattle.lengths.proofs.Checks.{sound_if_all, finds_first}
+use Rattle.std.proofs.Common.{Err, sym, ap, ◌∙◌, subst, arith, below_more}
+use Rattle.lengths.specs.Check.{Sized, Keeps, Breaks, Finds}
+use Rattle.lengths.proofs.Checks.{finds_first}
 use Rattle.lengths.proofs.Pinned.{finds_one, sound_finds_none}
 use Rattle.lengths.proofs.check.check.Goals as goal
 

@@ -1,4 +1,4 @@
-use Rattle.std.proofs.Common.{◌≡◌, vec_items}
+use Rattle.std.proofs.Common.{vec_items}
 use Rattle.lengths.specs.Pairs.{PairKept}
 use Rattle.survey.specs.Surveyed.{NodeTold, Rows}
 use Rattle.survey.proofs.surveying.node_rows.Given as goal

@@ -1,4 +1,4 @@
-use Rattle.std.proofs.Common.{◌≡◌, ◌-◌, ◌<◌, get_or, drop, refl, ap, ◌∙◌, subst, arith}
+use Rattle.std.proofs.Common.{◌≡◌, ◌-◌, ◌<◌, get_or, ap, ◌∙◌, arith}
 use Rattle.lengths.proofs.Filling.{holds_from}
 use Rattle.lengths.proofs.table.Lengths.turn_back.Goals as goal
 
