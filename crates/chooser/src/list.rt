@@ -91,6 +91,7 @@ fn draw_found<D: Delay, W: Wiring<D>>(
 }
 
 /// The same, with the marks cut into those of the nodes and those of the places.
+// cut here and for the loads: a function that hands out the parts of what it is lent is not followed by the checker
 fn draw_on<D: Delay, W: Wiring<D>>(
     w: &W,
     lengths: &mut LengthPair<D>,

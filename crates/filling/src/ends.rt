@@ -77,7 +77,8 @@ fn fill_arcs<D: Delay, W: Wiring<D>>(
     }
 }
 
-// Puts the arc of every lead at its place, and links the arcs of each node.
+// Puts the arc of every lead at its place, and links the arcs of each node. The marks are passed apart: while one part
+// of a lent struct is read, the checker cannot follow that another part is written.
 pub(crate) fn link_ends<D: Delay, W: Wiring<D>>(
     w: &W,
     lengths: &mut LengthPair<D>,

@@ -18,6 +18,7 @@ pub fn count_paths(arcs: Arcs, left: &[u16]) -> usize
     requires { length left.now ≡ length arcs.marks.now }
     ensures { result ≡ total (shown arcs.entry) (load_of left.now) }
 {
+    // a loop: of a filtered chain's sum nothing is found that bounds it or says what it is
     let mut paths = 0;
     for (place, units) in left.iter().enumerate() {
         if is_outer(arcs, place, false) {

@@ -23,6 +23,7 @@ impl<D: Delay, W: Wiring<D>> LinkedWiring<'_, D, W> {
         ensures none { (k : ℕ) → load_of left.new k ≡ 0 }
     {
         let mut words = WordRow::new(row);
+        // what is left changes as paths are drawn, so there is nothing to go over
         let mut paths = 0;
         let mut from = link_of(self.links.nodes, self.links.arcs.source, true);
         while let Some(start) = self.links.first_left(left, from) {

@@ -109,6 +109,7 @@ impl Settling<'_> {
         ensures best { Best (shown self.old.arcs) (load_of self.new.loads.now) }
     {
         self.settle_total();
+        // by number: what is settled is the load at the number, and its arc is looked up there
         for k in 0..self.arcs.marks.len() {
             self.settle_lead(k);
         }

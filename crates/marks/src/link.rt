@@ -7,6 +7,7 @@ use super::mark::{Arc, Mark};
 
 /// The link of an entry: of a node its lowest arc, of a place the next arc of the same node; of those
 /// that begin at the node, or of those that end there.
+// the direction is a value: a closure for the field would have to go through every caller of a walk
 pub fn link_of(marks: &[Mark], entry: usize, along: bool) -> Option<u16>
     requires { entry < length marks.now }
     ensures { result ≡ link_at marks.now along entry }

@@ -10,6 +10,8 @@ pub struct Arc {
 }
 
 /// A step over the arc at a place, along it or against it.
+// a flag, here and wherever a direction is passed: it is one in the definition of a step too, and an enum of
+// two would be turned into it at every use
 #[derive(Clone, Copy, PartialEq, Eq, Debug)]
 pub struct Step {
     pub place: u16,

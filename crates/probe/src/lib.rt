@@ -43,6 +43,7 @@ pub struct Answer {
 const NO_MEMORY: u8 = 255;
 
 /// Why there is no list.
+// its like is the survey's error: one generic error could not come both from any reason and from want of memory
 #[derive(Clone, Copy)]
 pub enum ProbeError {
     /// the wiring breaks a limit, or a row is too short

@@ -27,6 +27,7 @@ pub struct NodeRow<D> {
 #[derive(Clone, Copy)]
 pub struct LeadRow<D> {
     pub lead: Lead<D>,
+    // the two marks of its type
     pub drains: bool,
     pub fed: bool,
     pub longest: D,
