@@ -46,6 +46,7 @@ impl<D: Delay, W: Wiring<D>> Measure<D> for ByLinks<'_, W> {
 
 /// Links the leads of the wiring and fills the table with To of every node; entries past the nodes
 /// stay, and so do the links.
+// how long the parts are is a clause here and where else they are passed apart; for the whole it is `Fits`
 pub fn measure_to<D: Delay, W: Wiring<D>>(
     w: &W,
     to: &mut Lengths<D>,

@@ -31,6 +31,7 @@ pub struct Settling<'a> {
     pub ghost few: { total (shown arcs) (load_of loads.now) ≤ 4096 },
 }
 
+// what a method leaves of what is lent stays a clause of each, here and elsewhere: no type can say it of a call
 impl Settling<'_> {
     ghost use Rattle.loads.specs.Kept.{Kept};
 
