@@ -1,6 +1,7 @@
 -- A number's text: digits with no zero in front, which `from_str_radix` reads.
-use Rattle.std.proofs.Common.{◌≡◌, ◌≢◌, ℕ, zero, suc, ◌<◌, ◌≤◌, List, length, get_or, Ok, Err, decimal, Result, sym, ap, ◌∙◌, subst, arith}
+use Rattle.std.proofs.Common.{◌≡◌, ◌≢◌, ℕ, zero, suc, ◌+◌, ◌<◌, ◌≤◌, List, length, get_or, Ok, Err, decimal, Result, sym, ap, ◌∙◌, subst, arith}
 use Rattle.std.specs.Int.{IsInRange}
+use Rattle.std.specs.Char.{digit_value}
 use Rattle.std.specs.Result.{result_ok}
 use Rattle.std.specs.Str.{IsUtf8}
 use Rattle.std.specs.Str.Parse.{AllDigits, ParsesUnsigned, digits_value}
@@ -11,6 +12,10 @@ use Rattle.netlist.specs.Texts.{Below, Lacks, Reads}
 
 own : IsNumeralModel (AllDigits 10) (digits_value 10)
 own = numerals_by_value (AllDigits 10) tells_digits
+
+-- the value of the digit d is d
+pub value_of_digit : (c d : ℕ) → c ≡ 48 + d → d < 10 → digit_value c ≡ d
+value_of_digit c d e l = grind arith
 
 -- only digits stand in a number's text
 pub decimal_lacks : (c n : ℕ) → Below 32 n → (IsInRange 48 57 c → ⊥) → Lacks c (decimal n)
