@@ -47,7 +47,9 @@ fn refused(rt: &impl Abort, leads: &[Place], room: Room) -> Result<Option<FillEr
     };
     assert!(rt; to_row[0].0 == 9 && to_row[1].0 == 9);
     assert!(rt; from_row[0].0 == 9 && from_row[1].0 == 9);
-    assert!(rt; loads[0] == 9 && marks[0].arc.is_none() && marks[1].arc.is_none() && marks[2].arc.is_none());
+    assert!(rt;
+        loads[0] == 9 && marks[0].arc.is_none() && marks[1].arc.is_none() && marks[2].arc.is_none()
+    );
     Ok(Some(why))
 }
 
