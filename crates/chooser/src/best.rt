@@ -56,7 +56,12 @@ fn balance(nodes: &mut [Mark], places: &mut [Mark], loads: &mut [u16])
     let arcs = arcs_of(places, nodes.len());
     let mut raising = Raising { arcs, nodes, loads };
     raising.first_loads();
-    let mut settling = Settling { arcs, nodes, loads };
+    let mut settling = Settling {
+        arcs,
+        nodes,
+        loads,
+        last: None,
+    };
     settling.settle();
 }
 

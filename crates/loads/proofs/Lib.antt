@@ -1,6 +1,7 @@
 mod Cells
 mod Stepping
 mod Searches
+mod Forgetting
 mod Walks
 mod Raises
 mod Settles

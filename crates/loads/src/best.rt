@@ -1,15 +1,16 @@
 //! Loads turned into the best loads: first the total is brought down to the least, then, with the total
 //! and the loads below it kept, the load of each place in ascending number.
-ghost use Rattle.std.specs.Prelude.{◌≡◌, ◌+◌, ◌<◌, ◌≤◌, true, length, Some};
+ghost use Rattle.std.specs.Prelude.{◌≡◌, ℕ, ◌+◌, ◌<◌, ◌≤◌, true, false, length, Some};
+ghost use Rattle.std.proofs.Props.{props};
 ghost use Rattle.flow.specs.Loads.{Loads, Best, total};
 ghost use Rattle.marks.specs.Links.{Linked};
-ghost use Rattle.marks.specs.Marks.{arc_of, load_of};
+ghost use Rattle.marks.specs.Marks.{arc_of, load_of, reached_of};
 ghost use Rattle.marks.specs.Shown.{shown};
 ghost use Rattle.marks.proofs.Linking.{linked_prop};
-ghost use Rattle.loads.specs.Search.{Sought};
+ghost use Rattle.loads.specs.Search.{Queued, Sought};
 ghost use Rattle.loads.specs.Settle.{loads_prop, Reduced, Lowered, SettledTo};
 
-use super::search::search;
+use super::search::{forget_all, forget_queued, search_fresh};
 use super::shift::shift_most;
 use marks::arcs::Arcs;
 use marks::mark::{Arc, Mark};
@@ -24,9 +25,12 @@ pub struct Settling<'a> {
     pub arcs: Arcs<'a>,
     pub nodes: &'a mut [Mark],
     pub loads: &'a mut [u16],
+    /// How many nodes the last search has in its queue, where one was made here.
+    pub last: Option<usize>,
     pub ghost sized: { length nodes.now ≡ arcs.nodes },
     pub ghost loaded: { length loads.now ≡ length arcs.marks.now },
     pub ghost linked: { Linked arcs.marks.now nodes.now 0 } by { linked_prop arcs.marks.now nodes.now 0 },
+    pub ghost queued: { (count : ℕ) → last ≡ Some count → Queued (shown arcs) nodes.now count } by { Prim.hlevel props },
     pub ghost balanced: { Loads (shown arcs) (load_of loads.now) } by { loads_prop (shown arcs) (load_of loads.now) },
     pub ghost few: { total (shown arcs) (load_of loads.now) ≤ 4096 },
 }
@@ -34,6 +38,19 @@ pub struct Settling<'a> {
 // what a method leaves of what is lent stays a clause of each, here and elsewhere: no type can say it of a call
 impl Settling<'_> {
     ghost use Rattle.loads.specs.Kept.{Kept};
+
+    /// Forgets what the last search left.
+    fn forget(&mut self)
+        ensures kept { Kept self.old self.new }
+        ensures loads { self.new.loads.now ≡ self.old.loads.now }
+        ensures forgotten { (v : ℕ) → reached_of self.new.nodes.now v ≡ false }
+    {
+        let nodes = &mut *self.nodes;
+        match self.last.take() {
+            Some(count) => forget_queued(nodes, count),
+            None => forget_all(nodes),
+        }
+    }
 
     /// Searches for a way of free steps from the node `from` to the node `to`, over the places from
     /// `low` on.
@@ -44,8 +61,11 @@ impl Settling<'_> {
         ensures loads { self.new.loads.now ≡ self.old.loads.now }
         ensures sought { Sought (shown self.old.arcs) (load_of self.old.loads.now) low from to self.new.nodes.now result }
     {
+        self.forget();
         let loads = &mut *self.loads;
-        search(self.arcs, self.nodes, loads, low, from, to)
+        let searched = search_fresh(self.arcs, self.nodes, loads, low, from, to);
+        self.last = Some(searched.queued);
+        searched.found
     }
 
     /// Takes from the total what the way that a search found from the sink to the source allows.

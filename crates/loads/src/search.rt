@@ -16,10 +16,39 @@ use marks::arcs::Arcs;
 use marks::follow::ArcsAt;
 use marks::mark::{Mark, Reached, Step};
 
-/// Forgets what a search left, and begins one at the node `from`.
+/// Forgets what a search left, at all nodes.
+pub fn forget_all(nodes: &mut [Mark])
+    ensures forgotten { (v : ℕ) → reached_of nodes.new v ≡ false }
+    ensures out { out_at nodes.new ≡ out_at nodes.old }
+    ensures into { into_at nodes.new ≡ into_at nodes.old }
+{
+    for node in nodes.iter_mut() {
+        node.reached = None;
+    }
+}
+
+/// Forgets what a search left, at the nodes in its queue, which are all that it reached: most searches
+/// reach few.
+pub fn forget_queued(nodes: &mut [Mark], count: usize)
+    requires room { count ≤ length nodes.old }
+    requires inside { (i : ℕ) → i < count → queued_at nodes.old i < length nodes.old }
+    requires all { (v : ℕ) → reached_of nodes.old v ≡ true → ∥ ((i : ℕ) × (i < count) × (queued_at nodes.old i ≡ v)) ∥₁ }
+    ensures forgotten { (v : ℕ) → reached_of nodes.new v ≡ false }
+    ensures out { out_at nodes.new ≡ out_at nodes.old }
+    ensures into { into_at nodes.new ≡ into_at nodes.old }
+{
+    // by number: the queue is kept at the entries, and leads from one to another
+    for i in 0..count {
+        let v = nodes[i].queued as usize;
+        nodes[v].reached = None;
+    }
+}
+
+/// Begins a search at the node `from`, where nothing is reached yet.
 fn begin_search(nodes: &mut [Mark], from: usize)
     requires node { from < length nodes.old }
     requires small { length nodes.old ≤ 4096 }
+    requires fresh { (v : ℕ) → reached_of nodes.old v ≡ false }
     ensures reached { (v : ℕ) → reached_of nodes.new v ≡ (v == from) }
     ensures depth { depth_of nodes.new from ≡ 0 }
     ensures start { stepped_of nodes.new from ≡ false }
@@ -27,9 +56,6 @@ fn begin_search(nodes: &mut [Mark], from: usize)
     ensures out { out_at nodes.new ≡ out_at nodes.old }
     ensures into { into_at nodes.new ≡ into_at nodes.old }
 {
-    for node in nodes.iter_mut() {
-        node.reached = None;
-    }
     nodes[from].reached = Some(Reached { depth: 0, by: None });
     nodes[0].queued = from as u16;
 }
@@ -77,13 +103,14 @@ impl Spread<'_> {
         ensures went { Went self.old self.new }
         ensures reaches { self.old.low ≤ step.place → Free (load_of self.old.loads.now) step.place step.along → reached_of self.new.nodes.now (step_to (shown self.old.arcs) (over step.place step.along)) ≡ true }
     {
-        let (u, v) = step_ends(self.arcs, step);
         if (step.place as usize) < self.low {
             return;
         }
         if !is_free(self.loads, step) {
             return;
         }
+        // only now: most steps end above, and need no look at the arc
+        let (u, v) = step_ends(self.arcs, step);
         let mark = self.nodes[v];
         if mark.reached.is_some() {
             return;
@@ -138,9 +165,52 @@ impl Spread<'_> {
     }
 }
 
+/// What a search answers: whether it found a way, and how many nodes it has in its queue.
+#[derive(Clone, Copy)]
+pub struct Searched {
+    pub found: bool,
+    pub queued: usize,
+}
+
 /// Searches for a way of free steps from the node `from` to the node `to`, over the places from `low`
-/// on, and answers whether there is one. If so, the marks tell it; if not, the nodes reached are all
-/// that can be.
+/// on, where nothing is reached yet. If there is a way, the marks tell it; if not, the nodes reached are
+/// all that can be.
+pub fn search_fresh(
+    arcs: Arcs,
+    nodes: &mut [Mark],
+    loads: &[u16],
+    low: usize,
+    from: usize,
+    to: usize,
+) -> Searched
+    requires nodes { length nodes.old ≡ arcs.nodes }
+    requires places { length loads.now ≡ length arcs.marks.now }
+    requires linked { Linked arcs.marks.now nodes.old 0 }
+    requires fresh { (v : ℕ) → reached_of nodes.old v ≡ false }
+    requires from { from < arcs.nodes }
+    requires to { to < arcs.nodes }
+    ensures sought { Sought (shown arcs.entry) (load_of loads.now) low from to nodes.new result.found }
+    ensures queued { Queued (shown arcs.entry) nodes.new result.queued }
+    ensures linked { Linked arcs.entry.marks.now nodes.new 0 }
+{
+    begin_search(nodes, from);
+    let mut spread = Spread {
+        arcs,
+        nodes,
+        loads,
+        low,
+        count: 1,
+    };
+    let found = spread.run(to);
+    Searched {
+        found,
+        queued: spread.count,
+    }
+}
+
+/// Searches for a way of free steps from the node `from` to the node `to`, over the places from `low`
+/// on, whatever an earlier search left, and answers whether there is one. If so, the marks tell it; if
+/// not, the nodes reached are all that can be.
 pub fn search(
     arcs: Arcs,
     nodes: &mut [Mark],
@@ -157,13 +227,6 @@ pub fn search(
     ensures sought { Sought (shown arcs.entry) (load_of loads.now) low from to nodes.new result }
     ensures linked { Linked arcs.entry.marks.now nodes.new 0 }
 {
-    begin_search(nodes, from);
-    let mut spread = Spread {
-        arcs,
-        nodes,
-        loads,
-        low,
-        count: 1,
-    };
-    spread.run(to)
+    forget_all(nodes);
+    search_fresh(arcs, nodes, loads, low, from, to).found
 }

@@ -14,7 +14,11 @@ pub fn step_ends(arcs: Arcs, step: Step) -> (usize, usize)
     ensures from { result.0 ≡ step_from (shown arcs.entry) (over step.place step.along) }
     ensures to { result.1 ≡ step_to (shown arcs.entry) (over step.place step.along) }
 {
-    let arc = arcs.marks[step.place as usize].arc.unwrap();
+    // by reference, so that only the two ends are read; and at every step of a search an answer that is never
+    // given costs less than a stop that is never made
+    let Some(arc) = &arcs.marks[step.place as usize].arc else {
+        return (0, 0);
+    };
     if step.along {
         (arc.begin as usize, arc.end as usize)
     } else {

@@ -27,14 +27,14 @@ fn lead_of<D: Delay>(place: Place) -> Option<Lead<D>>
     })
 }
 
-// The leads of all places: a function of its own, so that what the chain gives is known to its caller.
+// The leads of all places: a function of its own, so that what the chain gives is known to its caller. Room for
+// all is asked for first: where there is not so much, no lead is made.
 fn leads_of<D: Delay>(heap: Global, places: &[Place]) -> Result<Vec<Option<Lead<D>>>, AllocError>
     ensures { IfOk result (λ v. v.items ≡ map (lead_in D.Delay.kind) places.now) }
 {
-    places
-        .iter()
-        .map(|place| lead_of::<D>(*place))
-        .collect(heap)
+    let mut leads = Vec::with_capacity(heap, places.len())?;
+    leads.extend(places.iter().map(|place| lead_of::<D>(*place)))?;
+    Ok(leads)
 }
 
 // Makes the four tables for a sound wiring, and writes its list and a witness.

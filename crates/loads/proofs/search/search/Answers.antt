@@ -1,39 +1,7 @@
-use Rattle.std.proofs.Common.{rules, arith}
-use Rattle.marks.specs.Marks.{load_of}
-use Rattle.marks.specs.Shown.{shown}
-use Rattle.loads.specs.Search.{Sought}
-use Rattle.loads.proofs.Searches.{begun_trail, begun_stepped, begun_queued, links_stay}
+use Rattle.loads.proofs.Searches.{links_stay}
 use Rattle.loads.proofs.search.search.Goals as goal
 
-pub invariant_of-spread : goal.invariant_of-spread
-invariant_of-spread c =
-    let a = c.args.arcs in
-    let begun = c.begin_search.ensures in
-    let ns = c.begin_search.new.nodes in
-    record {
-      sized = omega arith;
-      loaded = c.requires.places;
-      linked = links_stay a.marks.now c.args.nodes.now ns c.begin_search.auto.nodes begun.out begun.into c.requires.linked;
-      queued = begun_queued (shown a) c.args.from ns begun.reached c.requires.from begun.depth begun.queued;
-    }
-
-pub returns-clause-sought : goal.returns-clause-sought
-returns-clause-sought c =
-    let a = c.args.arcs in
-    let T = shown a in
-    let f = load_of c.args.loads.now in
-    let low = c.args.low in
-    let u = c.args.from in
-    let begun = c.begin_search.ensures in
-    let ns = c.begin_search.new.nodes in
-    let ms = c.run.new.self.nodes.now in
-    let g = c.run.ensures.went.grown in
-    let start = begun_trail T u ns begun.reached f low in
-    let sought : Sought T f low u c.args.to ms c.run.result = record {
-      trail = g.trail u start;
-      stepped = g.stepped u start.start (begun_stepped T u ns begun.reached begun.start);
-      target = c.run.ensures.target;
-      shut = c.run.ensures.shut;
-    } in
-    let lent = c.run.ensures.went.lent in
-    search rules
+pub search_fresh-requires-clause-linked : goal.search_fresh-requires-clause-linked
+search_fresh-requires-clause-linked c =
+    let made = c.forget_all in
+    links_stay c.args.arcs.marks.now c.args.nodes.now made.new.nodes made.auto.nodes made.ensures.out made.ensures.into c.requires.linked

@@ -57,6 +57,7 @@ invariant_of-self c =
       sized = a.sized;
       loaded = simp length-set (omega (arith, c.shift_most-by.auto.loads, a.loaded));
       linked = a.linked;
+      queued = a.queued;
       balanced = r.loads;
       few = omega (arith, r.same, a.few);
     }

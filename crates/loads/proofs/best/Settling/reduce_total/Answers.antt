@@ -23,7 +23,7 @@ pub invariant_of-self : goal.invariant_of-self
 invariant_of-self c =
     let a = c.args.self.now in
     let r = less (goal.at.invariant_of-self c).After-shift_most-by in
-    record { sized = a.sized; loaded = omega (arith, c.shift_most-by.auto.loads, a.loaded); linked = a.linked; balanced = r.loads; few = omega (arith, r.less, a.few) }
+    record { sized = a.sized; loaded = omega (arith, c.shift_most-by.auto.loads, a.loaded); linked = a.linked; queued = a.queued; balanced = r.loads; few = omega (arith, r.less, a.few) }
 
 pub returns-clause-reduced : goal.returns-clause-reduced
 returns-clause-reduced c = less (goal.at.returns-clause-reduced c).After-shift_most-by

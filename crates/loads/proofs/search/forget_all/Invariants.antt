@@ -1,7 +1,7 @@
 use Rattle.std.proofs.Common.{◌≡◌, ℕ, ◌<◌, false}
 use Rattle.marks.specs.Links.{out_at, into_at}
 use Rattle.marks.specs.Marks.{reached_of}
-use Rattle.loads.proofs.search.begin_search.Given as goal
+use Rattle.loads.proofs.search.forget_all.Given as goal
 
 abbrev pub invariant-loop-node : goal.invariant-loop-node
 invariant-loop-node l =
